@@ -1,0 +1,4 @@
+pub mod ListLaws
+pub mod Refusing
+pub mod Search
+pub mod ThresholdLaws

@@ -1,0 +1,14 @@
+// Fault rules: which processes may lie or fall silent together.
+mod adopt;
+mod intersection;
+mod pair_list;
+mod refusal;
+mod structure;
+mod threshold;
+
+pub use adopt::PairListStructure;
+pub use pair_list::MAX_PAIRS;
+pub use pair_list::PairList;
+pub use refusal::Place;
+pub use refusal::RuleRefusal;
+pub use structure::AdversaryStructure;
