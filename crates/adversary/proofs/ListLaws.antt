@@ -24,7 +24,7 @@ pub unless : {X : Type 0} (o : Option X) → not (isSome o) ≡ true → o ≡ N
 unless None e = refl
 unless (Some x) e = absurd (true≢false (sym e))
 
-when-none : {X : Type 0} (b : Bool) (x : X) → when b x ≡ None → b ≡ false
+pub when-none : {X : Type 0} (b : Bool) (x : X) → when b x ≡ None → b ≡ false
 when-none true x e = absurd (let z : _≡_ {A = ℕ} 0 1 = cc in omega arith)
 when-none false x e = refl
 

@@ -115,6 +115,10 @@ adoptable n ps = not (isSome (list-refusal n ps))
 abbrev pub threshold-refusal : ℕ → ℕ → ℕ → Option RuleRefusal
 threshold-refusal n t b = or-else (size-refusal n) (or-else (when (ltb t b) ByzantineAboveTotal) (when (leb n (t + 2 * b)) TotalTooHigh))
 
+-- whether they are accepted
+abbrev pub tolerable : ℕ → ℕ → ℕ → Bool
+tolerable n t b = not (isSome (threshold-refusal n t b))
+
 -- the answer of a check that is refused with this, if at all
 abbrev pub answered : {X : Type 0} → X → Option RuleRefusal → Result X RuleRefusal
 answered x None = Ok x

@@ -17,3 +17,7 @@ listed (p ∷ ps) a f = contained a f (byz p) (fail p) || listed ps a f
 -- a threshold holds the pairs of the first n processes with at most b in a and at most t in a ∪ f
 abbrev pub within : ℕ → ℕ → ℕ → ℕ → ℕ → Bool
 within n t b a f = subset (bitOr a f) (full n) && (leb (ones a) b && leb (ones (bitOr a f)) t)
+
+-- two rules at once hold what both hold
+abbrev pub both : (ℕ → ℕ → Bool) → (ℕ → ℕ → Bool) → ℕ → ℕ → Bool
+both held held′ a f = held a f && held′ a f

@@ -5,7 +5,7 @@ ghost use mathlib.Core.List.{_∷_, []};
 ghost use Prim.Native.Nat.{ℕ, _-_, _<_, _≤_};
 ghost use lib.ListN.{length, take};
 ghost use Rattle.std.specs.Options.{Cases as BySome};
-ghost use Rattle.std.specs.Results.{Cases};
+ghost use Rattle.std.specs.Results.{Cases, errPart};
 ghost use Rattle.sets.specs.Pairs.{byz, fail, pair-of};
 ghost use Rattle.sets.specs.Sets.{limit};
 ghost use Rattle.adversary.specs.Refusals.{answered, size-refusal, pair-refusal, pairs-refusal, third-from, second-from, least-cover, list-refusal, most-pairs};
@@ -147,7 +147,7 @@ impl PairList {
 
     // Replaces the whole list, or is refused and leaves it as it was.
     pub fn adopt(&mut self, processes: u16, pairs: &[FaultPair]) -> Result<(), RuleRefusal>
-        ensures answer { λ r. ⌜ r ≡ answered tt (list-refusal processes (now (pairs .entry))) ⌝ }
+        ensures answer { λ r. ⌜ errPart r ≡ list-refusal processes (now (pairs .entry)) ⌝ }
         ensures after { λ r. ⌜ Cases r (λ _. Has (now (self .exit)) processes (now (pairs .entry))) (λ _. now (self .exit) ≡ now (self .entry)) ⌝ }
     {
         let count = check_list(processes, pairs)?;

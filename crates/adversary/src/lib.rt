@@ -1,5 +1,6 @@
 // Fault rules: which processes may lie or fall silent together.
 mod adopt;
+mod counts;
 mod intersection;
 mod pair_list;
 mod refusal;
@@ -8,7 +9,11 @@ mod threshold;
 
 pub use adopt::PairListStructure;
 pub use pair_list::MAX_PAIRS;
+pub use counts::ThresholdStructure;
+pub use intersection::Intersection;
+pub use intersection::IntersectionStructure;
 pub use pair_list::PairList;
 pub use refusal::Place;
 pub use refusal::RuleRefusal;
 pub use structure::AdversaryStructure;
+pub use threshold::Threshold;

@@ -33,7 +33,7 @@ module _ (a₁ f₁ a₂ f₂ a₃ f₃ : ℕ) where
   has-covered : (s : ℕ) → has (cover-of a₁ f₁ a₂ f₂ a₃ f₃) s ≡ (((has a₁ s || has a₂ s) || has a₃ s) || ((has f₁ s && has f₂ s) && has f₃ s))
   has-covered s = simp (has-or, has-and)
 
-  in-covered : (s : ℕ) → has (cover-of a₁ f₁ a₂ f₂ a₃ f₃) s ≡ true → Covered a₁ f₁ a₂ f₂ a₃ f₃ s
+  pub in-covered : (s : ℕ) → has (cover-of a₁ f₁ a₂ f₂ a₃ f₃) s ≡ true → Covered a₁ f₁ a₂ f₂ a₃ f₃ s
   in-covered s h =
       ⊎-elim
       (λ p. ⊎-elim (λ q. ⊎-elim by-first by-second (or-cases _ _ q)) by-third (or-cases _ _ p))
