@@ -1,0 +1,101 @@
+// How a text is parted, and what a field means.
+ghost use mathlib.Core.Path.{_≡_};
+ghost use mathlib.Core.List.{_∷_, []};
+ghost use Prim.Native.Nat.{ℕ, suc, _<_, _≤_, _+_};
+ghost use lib.ListN.{length, take, drop};
+ghost use Rattle.std.specs.Options.{Cases};
+ghost use Rattle.std.specs.shelf.Text.{sameBytes};
+ghost use Rattle.sets.specs.Sets.{set-of};
+ghost use Rattle.script.specs.Fields.{run, split, comma, number-in, member-in, union-in, set-in};
+use sets::ProcessSet;
+
+pub(crate) const LINE_FEED: u8 = b'\n';
+pub(crate) const BLANK: u8 = b' ';
+const COMMA: u8 = b',';
+const MAX_DIGITS: usize = 3;
+
+// Whether a field is this text.
+pub(crate) fn is_text(field: &[u8], text: &[u8]) -> bool
+    ensures { λ r. ⌜ r ≡ sameBytes (now (field .entry)) (now (text .entry)) ⌝ }
+{
+    field == text
+}
+
+// How many bytes stand before the first `stop`.
+fn run_length(text: &[u8], stop: u8) -> usize
+    ensures within { λ r. ⌜ r ≤ length (now (text .entry)) ⌝ }
+    ensures value { λ r. ⌜ r ≡ run stop (now (text .entry)) ⌝ }
+{
+    for (i, b) in text.iter().enumerate() {
+        if *b == stop {
+            return i;
+        }
+    }
+    text.len()
+}
+
+// The piece before the first `stop`, and what follows that byte, if there is one.
+pub(crate) fn cut(text: &[u8], stop: u8) -> (&[u8], Option<&[u8]>)
+    ensures { λ r. ⌜ Cases (r .1) (split stop (now (text .entry)) ≡ now (r .0) ∷ []) (λ rest. (split stop (now (text .entry)) ≡ now (r .0) ∷ split stop (now rest)) × (length (now rest) < length (now (text .entry)))) ⌝ }
+{
+    let n = run_length(text, stop);
+    if n == text.len() {
+        (text, None)
+    } else {
+        (&text[0..n], Some(&text[n + 1..]))
+    }
+}
+
+// A number of one to three digits.
+pub(crate) fn number(field: &[u8]) -> Option<u16>
+    ensures value { λ r. ⌜ r ≡ number-in (now (field .entry)) ⌝ }
+    ensures small { λ r. ⌜ Cases r (Unit {0}) (λ n. n < 1000) ⌝ }
+{
+    if field.is_empty() || field.len() > MAX_DIGITS {
+        return None;
+    }
+    let mut n = 0u16;
+    for b in field {
+        if *b < b'0' || *b > b'9' {
+            return None;
+        }
+        n = 10 * n + u16::from(*b - b'0');
+    }
+    Some(n)
+}
+
+// The set of one process.
+fn member(field: &[u8]) -> Option<ProcessSet>
+    ensures { λ r. ⌜ r ≡ member-in (now (field .entry)) ⌝ }
+{
+    match u8::try_from(number(field)?) {
+        Ok(number) => ProcessSet::of(number),
+        Err(_) => None,
+    }
+}
+
+// The set of processes whose numbers are joined by commas.
+fn joined_set(field: &[u8]) -> Option<ProcessSet>
+    ensures { λ r. ⌜ r ≡ union-in (set-of 0) (split comma (now (field .entry))) ⌝ }
+{
+    let mut set = ProcessSet::EMPTY;
+    let mut rest = field;
+    loop {
+        let (piece, more) = cut(rest, COMMA);
+        set = set.union(member(piece)?);
+        let Some(next) = more else {
+            return Some(set);
+        };
+        rest = next;
+    }
+}
+
+// Process numbers joined by commas, or a dash for none.
+pub(crate) fn process_set(field: &[u8]) -> Option<ProcessSet>
+    ensures { λ r. ⌜ r ≡ set-in (now (field .entry)) ⌝ }
+{
+    if is_text(field, b"-") {
+        return Some(ProcessSet::EMPTY);
+    }
+    joined_set(field)
+}

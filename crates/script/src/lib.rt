@@ -1,0 +1,2 @@
+// Reading a script, and writing what comes of it.
+mod fields;
