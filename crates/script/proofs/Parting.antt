@@ -7,7 +7,7 @@ use native.Mathlib.Omega.{arith}
 use lib.Dec.{eqb}
 use lib.ListN.{length, take, drop, getD}
 use Rattle.std.proofs.shelf.Lists.{at-drop-more, at-drop-all}
-use Rattle.std.proofs.shelf.Tests.{cond-true, cond-false, eq-eqb, ne-eqb}
+use Rattle.std.proofs.shelf.Tests.{cond-true, cond-false, cond-both, eq-eqb, ne-eqb}
 use Rattle.script.specs.Fields.{onto, split, run}
 
 -- the piece before the first stop, and the pieces of what follows it
@@ -37,3 +37,12 @@ run-on stop bs i h e = at-drop-more (run stop) bs i 0 h ∙ cond-false _ 0 _ (ne
 
 pub run-end : (stop : ℕ) (bs : List ℕ) (i : ℕ) → length bs ≤ i → run stop (drop i bs) ≡ 0
 run-end stop bs i h = at-drop-all (run stop) bs i h
+
+-- there is always a piece
+pub split-some : (stop : ℕ) (bs : List ℕ) → 0 < length (split stop bs)
+split-some stop [] = omega arith
+split-some stop (b ∷ bs) = cond-both (eqb b stop) _ _ (λ ps. 0 < length ps) (λ e. omega arith) (λ e. some (split stop bs))
+  where
+    some : (ps : List (List ℕ)) → 0 < length (onto b ps)
+    some [] = omega arith
+    some (p ∷ ps) = omega arith

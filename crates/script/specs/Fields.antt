@@ -1,7 +1,8 @@
 -- How a text is parted, and what a field means.
+use mathlib.Core.Path.{_≡_}
 use mathlib.Core.Bool.{cond, _&&_}
 use mathlib.Core.List.{List, [], _∷_}
-use Prim.Native.Nat.{ℕ, suc, _+_, _-_, _*_}
+use Prim.Native.Nat.{ℕ, suc, _<_, _+_, _-_, _*_}
 use lib.Bits.{bitOr}
 use lib.Chars.{codes}
 use lib.Dec.{eqb, leb}
@@ -21,6 +22,12 @@ onto b (p ∷ ps) = (b ∷ p) ∷ ps
 abbrev pub split : ℕ → List ℕ → List (List ℕ)
 split stop [] = [] ∷ []
 split stop (b ∷ bs) = cond (eqb b stop) ([] ∷ split stop bs) (onto b (split stop bs))
+
+-- a text is cut at its first `stop` into a front and a rest
+pub record Cut (stop : ℕ) (bs front rest : List ℕ) : Type 0 where
+  pub pieces : split stop bs ≡ front ∷ split stop rest
+  pub more : 1 < length (split stop bs)
+  pub shorter : length rest < length bs
 
 -- how many bytes stand before the first `stop`
 abbrev pub run : ℕ → List ℕ → ℕ

@@ -1,12 +1,13 @@
 // How a text is parted, and what a field means.
 ghost use mathlib.Core.Path.{_≡_};
+ghost use mathlib.Core.Bool.{true};
 ghost use mathlib.Core.List.{_∷_, []};
 ghost use Prim.Native.Nat.{ℕ, suc, _<_, _≤_, _+_};
 ghost use lib.ListN.{length, take, drop};
 ghost use Rattle.std.specs.Options.{Cases};
 ghost use Rattle.std.specs.shelf.Text.{sameBytes};
 ghost use Rattle.sets.specs.Sets.{set-of};
-ghost use Rattle.script.specs.Fields.{run, split, comma, number-in, member-in, union-in, set-in};
+ghost use Rattle.script.specs.Fields.{run, split, Cut, comma, number-in, member-in, union-in, set-in};
 use sets::ProcessSet;
 
 pub(crate) const LINE_FEED: u8 = b'\n';
@@ -16,7 +17,8 @@ const MAX_DIGITS: usize = 3;
 
 // Whether a field is this text.
 pub(crate) fn is_text(field: &[u8], text: &[u8]) -> bool
-    ensures { λ r. ⌜ r ≡ sameBytes (now (field .entry)) (now (text .entry)) ⌝ }
+    ensures value { λ r. ⌜ r ≡ sameBytes (now (field .entry)) (now (text .entry)) ⌝ }
+    ensures same { λ r. ⌜ (r ≡ true → now (field .entry) ≡ now (text .entry)) ⌝ }
 {
     field == text
 }
@@ -34,16 +36,15 @@ fn run_length(text: &[u8], stop: u8) -> usize
     text.len()
 }
 
-// The piece before the first `stop`, and what follows that byte, if there is one.
-pub(crate) fn cut(text: &[u8], stop: u8) -> (&[u8], Option<&[u8]>)
-    ensures { λ r. ⌜ Cases (r .1) (split stop (now (text .entry)) ≡ now (r .0) ∷ []) (λ rest. (split stop (now (text .entry)) ≡ now (r .0) ∷ split stop (now rest)) × (length (now rest) < length (now (text .entry)))) ⌝ }
+// The piece before the first `stop` and what follows that byte; nothing where the text has none.
+pub(crate) fn split_once(text: &[u8], stop: u8) -> Option<(&[u8], &[u8])>
+    ensures { λ r. ⌜ Cases r (split stop (now (text .entry)) ≡ now (text .entry) ∷ []) (λ p. Cut stop (now (text .entry)) (now (p .0)) (now (p .1))) ⌝ }
 {
     let n = run_length(text, stop);
     if n == text.len() {
-        (text, None)
-    } else {
-        (&text[0..n], Some(&text[n + 1..]))
+        return None;
     }
+    Some((&text[0..n], &text[n + 1..]))
 }
 
 // A number of one to three digits.
@@ -80,14 +81,11 @@ fn joined_set(field: &[u8]) -> Option<ProcessSet>
 {
     let mut set = ProcessSet::EMPTY;
     let mut rest = field;
-    loop {
-        let (piece, more) = cut(rest, COMMA);
+    while let Some((piece, next)) = split_once(rest, COMMA) {
         set = set.union(member(piece)?);
-        let Some(next) = more else {
-            return Some(set);
-        };
         rest = next;
     }
+    Some(set.union(member(rest)?))
 }
 
 // Process numbers joined by commas, or a dash for none.

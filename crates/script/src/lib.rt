@@ -1,2 +1,3 @@
 // Reading a script, and writing what comes of it.
 mod fields;
+mod line;

@@ -3,4 +3,6 @@ use Rattle.std.proofs.shelf.Ways.{same-from-decides}
 use Rattle.script.proofs.fields.is_text.Needs as need
 
 pub returns : need.returns
-returns c = same-from-decides (c .eq .result) _ (matches-decides (c .args .field .now) (c .args .text .now) (c .eq .result) (c .eq .ensures)) (sameBytes-decides (c .args .field .now) (c .args .text .now))
+returns c =
+    let told = matches-decides (c .args .field .now) (c .args .text .now) (c .eq .result) (c .eq .ensures) in
+    record { value = same-from-decides (c .eq .result) _ told (sameBytes-decides (c .args .field .now) (c .args .text .now)); same = told .0 }

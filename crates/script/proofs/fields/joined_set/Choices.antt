@@ -4,8 +4,8 @@ use Rattle.sets.specs.Sets.{set-of}
 use Rattle.script.specs.Fields.{split, comma, union-in}
 use Rattle.script.proofs.fields.joined_set.Given as given
 
-abbrev pub Inv-loop-set : given.InvT-loop-set
-Inv-loop-set l = union-in (l .set) (split comma (l .rest)) ≡ union-in (set-of 0) (split comma (l .entry .rest))
+abbrev pub Inv-loop-piece : given.InvT-loop-piece
+Inv-loop-piece l = union-in (l .set) (split comma (l .rest)) ≡ union-in (set-of 0) (split comma (l .entry .rest))
 
-abbrev pub μ-loop-set : given.MeasureT-loop-set
-μ-loop-set l = length (l .rest)
+abbrev pub μ-loop-piece : given.MeasureT-loop-piece
+μ-loop-piece l = length (l .rest)

@@ -5,14 +5,14 @@ use native.Mathlib.Omega.{arith}
 use lib.ListN.{length, take, drop, length-drop}
 use Rattle.std.proofs.shelf.Lists.{take-rest}
 use Rattle.script.specs.Fields.{split, run}
-use Rattle.script.proofs.Parting.{split-at, split-whole}
-use Rattle.script.proofs.fields.cut.Needs as need
+use Rattle.script.proofs.Parting.{split-at, split-whole, split-some}
+use Rattle.script.proofs.fields.split_once.Needs as need
 
 pub returns-then-n-text : need.returns-then-n-text
 returns-then-n-text c = split-whole (c .args .stop) (c .args .text .now) (sym (c .run-length-n .ensures .value) ∙ c .if-n-text .taken)
 
-pub returns-else-n-text : need.returns-else-n-text
-returns-else-n-text c =
+pub returns : need.returns
+returns c =
     let stop = c .args .stop in
     let bs = c .args .text .now in
     let n = c .run-length-n .result in
@@ -21,5 +21,9 @@ returns-else-n-text c =
     let front : run stop bs ≡ n - 0 = omega arith in
     let back : suc (run stop bs) ≡ n + 1 = omega arith in
     let rest = take-rest bs (n + 1) in
-    (split-at stop bs short ∙ ap₂ (λ (x y : ℕ). take x bs ∷ split stop (drop y bs)) front back ∙ ap (λ (l : List ℕ). take (n - 0) bs ∷ split stop l) (sym rest),
-    omega (arith, ap length rest, length-drop (n + 1) bs))
+    let pieces = split-at stop bs short in
+    record {
+      pieces = pieces ∙ ap₂ (λ (x y : ℕ). take x bs ∷ split stop (drop y bs)) front back ∙ ap (λ (l : List ℕ). take (n - 0) bs ∷ split stop l) (sym rest);
+      more = omega (arith, ap length pieces, split-some stop (drop (suc (run stop bs)) bs));
+      shorter = omega (arith, ap length rest, length-drop (n + 1) bs);
+    }
