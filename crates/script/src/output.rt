@@ -1,0 +1,82 @@
+// From the bytes of a script to what is printed.
+ghost use mathlib.Core.Path.{_≡_};
+ghost use Rattle.std.specs.Of.String.{string-bytes};
+ghost use Rattle.std.specs.Results.{Cases};
+ghost use Rattle.std.specs.Vec.{made};
+ghost use Rattle.std.specs.declared.result.Result.the-variants.{Ok, Err};
+ghost use Rattle.agreement.specs.Rounds.{rounds-of};
+ghost use Rattle.script.specs.Refusals.{Refuses};
+ghost use Rattle.script.specs.Reports.{crew-text, place-text, refused-text, refusal-text, report-of};
+ghost use Rattle.script.specs.Verdicts.{judgement};
+use adversary::Place;
+use crate::draft::Draft;
+use crate::refusal::Cause;
+use crate::refusal::Fault;
+use crate::refusal::FaultFromRefusal;
+use crate::refusal::Refusal;
+use crate::verdict::Crew;
+use std::alloc::AllocError;
+use std::alloc::Global;
+
+// The most bytes of a script.
+pub const MAX_BYTES: usize = 8192;
+
+// The crew of an accepted script.
+pub fn judge(heap: Global, script: &[u8]) -> Result<Crew, Fault>
+    ensures verdict { λ r. ⌜ Cases r (λ c. judgement (now (script .entry)) ≡ Ok (c .processes)) (λ f. Refuses f (λ e. judgement (now (script .entry)) ≡ Err e)) ⌝ }
+    ensures rounds { λ r. ⌜ made r (λ c. c .rounds ≡ rounds-of (c .processes)) ⌝ }
+{
+    if script.len() > MAX_BYTES {
+        return Err(Fault::Refused(Refusal { cause: Cause::TooLong, line: 0 }));
+    }
+    let mut draft = Draft::new(heap);
+    draft.read_lines(script)?;
+    Ok(draft.judge()?)
+}
+
+// `seats N rounds T`
+fn crew_line(heap: Global, crew: Crew) -> Result<String, AllocError>
+    requires { ⌜ crew .rounds ≡ rounds-of (crew .processes) ⌝ }
+    ensures { λ r. ⌜ made r (λ t. string-bytes t ≡ crew-text (crew .processes)) ⌝ }
+{
+    let processes = crew.processes;
+    let rounds = crew.rounds;
+    format!(heap, "seats {processes} rounds {rounds}\n")
+}
+
+// A place, as it is printed.
+fn place_field(heap: Global, place: Place) -> Result<String, AllocError>
+    ensures { λ r. ⌜ made r (λ t. string-bytes t ≡ place-text place) ⌝ }
+{
+    match place {
+        Place::Nowhere => String::from_str(heap, "0"),
+        Place::At(i) => format!(heap, "{i}"),
+        Place::Three(i, j, k) => format!(heap, "{i},{j},{k}"),
+    }
+}
+
+// The line of these fields.
+fn refused_line(heap: Global, number: u8, layer: &str, place: &str, line: u16) -> Result<String, AllocError>
+    ensures { λ r. ⌜ made r (λ t. string-bytes t ≡ refused-text number (now (layer .entry)) (now (place .entry)) line) ⌝ }
+{
+    format!(heap, "refused {number} {layer} {place} {line}\n")
+}
+
+// `refused NUMBER LAYER PLACE LINE`
+fn refusal_line(heap: Global, refusal: Refusal) -> Result<String, AllocError>
+    ensures { λ r. ⌜ made r (λ t. string-bytes t ≡ refusal-text refusal) ⌝ }
+{
+    let place = place_field(heap, refusal.place())?;
+    refused_line(heap, refusal.number(), refusal.layer().name(), place.as_str(), refusal.line)
+}
+
+// All that is printed for a script: its crew, or its refusal.
+pub fn report(heap: Global, script: &[u8]) -> Result<String, AllocError>
+    ensures { λ r. ⌜ made r (λ t. string-bytes t ≡ report-of (now (script .entry))) ⌝ }
+{
+    match judge(heap, script) {
+        Ok(crew) => crew_line(heap, crew),
+        Err(Fault::Refused(refusal)) => refusal_line(heap, refusal),
+        Err(Fault::Memory) => Err(AllocError),
+    }
+}
