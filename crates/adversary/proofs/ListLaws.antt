@@ -84,19 +84,19 @@ module _ (n : ℕ) (ps : List FaultPair) (none : least-cover n ps ≡ None) wher
   any-order i j k x y z =
       ⊎-elim
       (λ (ij : i < j). ⊎-elim
-        (λ (jk : j < k). in-order i j k (omega arith) (omega arith) z)
-        (λ (kj : k ≤ j). ⊎-elim
-          (λ (ik : i < k). turn i j k (turn j k i (swap k i j (in-order i k j (omega arith) kj y))))
-          (λ (ki : k ≤ i). turn i j k (turn j k i (in-order k i j ki (omega arith) y)))
-          (cases-lt i k))
-        (cases-lt j k))
+      (λ (jk : j < k). in-order i j k (omega arith) (omega arith) z)
+      (λ (kj : k ≤ j). ⊎-elim
+      (λ (ik : i < k). turn i j k (turn j k i (swap k i j (in-order i k j (omega arith) kj y))))
+      (λ (ki : k ≤ i). turn i j k (turn j k i (in-order k i j ki (omega arith) y)))
+      (cases-lt i k))
+      (cases-lt j k))
       (λ (ji : j ≤ i). ⊎-elim
-        (λ (ik : i < k). swap i j k (in-order j i k ji (omega arith) z))
-        (λ (ki : k ≤ i). ⊎-elim
-          (λ (jk : j < k). turn i j k (in-order j k i (omega arith) ki x))
-          (λ (kj : k ≤ j). swap i j k (turn j i k (turn i k j (in-order k j i kj ji x))))
-          (cases-lt j k))
-        (cases-lt i k))
+      (λ (ik : i < k). swap i j k (in-order j i k ji (omega arith) z))
+      (λ (ki : k ≤ i). ⊎-elim
+      (λ (jk : j < k). turn i j k (in-order j k i (omega arith) ki x))
+      (λ (kj : k ≤ j). swap i j k (turn j i k (turn i k j (in-order k j i kj ji x))))
+      (cases-lt j k))
+      (cases-lt i k))
       (cases-lt i j)
 
 -- what a list that can be adopted is

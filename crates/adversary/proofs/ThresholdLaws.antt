@@ -61,6 +61,7 @@ cover-few a₁ f₁ a₂ f₂ a₃ f₃ s h = few (in-covered a₁ f₁ a₂ f�
   where
     spread : has (bitOr (bitOr (bitOr a₁ f₁) a₂) a₃) s ≡ (((has a₁ s || has f₁ s) || has a₂ s) || has a₃ s)
     spread = simp has-or
+
     few : Covered a₁ f₁ a₂ f₂ a₃ f₃ s → has (bitOr (bitOr (bitOr a₁ f₁) a₂) a₃) s ≡ true
     few (by-first p) = spread ∙ or-left _ _ (or-left _ _ (or-left _ _ p))
     few (by-second p) = spread ∙ or-left _ _ (or-right _ _ p)
@@ -71,12 +72,12 @@ within-apart : (n t b : ℕ) → t + 2 * b < n → (a₁ f₁ a₂ f₂ a₃ f�
 within-apart n t b few a₁ f₁ a₂ f₂ a₃ f₃ x y z =
     ⊎-elim
     (λ c.
-        let p = within-tells n t b a₁ f₁ x in
-        let q = within-tells n t b a₂ f₂ y in
-        let r = within-tells n t b a₃ f₃ z in
-        let all : ones (full n) ≤ ones (bitOr (bitOr (bitOr a₁ f₁) a₂) a₃) =
-                ones-subset (full n) _ (members-subset _ _ (λ s h. cover-few a₁ f₁ a₂ f₂ a₃ f₃ s (subset-members (full n) (cover-of a₁ f₁ a₂ f₂ a₃ f₃) c s h))) in
-        absurd (omega (arith, ones-full n, ones-or (bitOr (bitOr a₁ f₁) a₂) a₃, ones-or (bitOr a₁ f₁) a₂, p .few, q .few-byzantine, r .few-byzantine)))
+    let p = within-tells n t b a₁ f₁ x in
+    let q = within-tells n t b a₂ f₂ y in
+    let r = within-tells n t b a₃ f₃ z in
+    let all : ones (full n) ≤ ones (bitOr (bitOr (bitOr a₁ f₁) a₂) a₃) =
+    ones-subset (full n) _ (members-subset _ _ (λ s h. cover-few a₁ f₁ a₂ f₂ a₃ f₃ s (subset-members (full n) (cover-of a₁ f₁ a₂ f₂ a₃ f₃) c s h))) in
+    absurd (omega (arith, ones-full n, ones-or (bitOr (bitOr a₁ f₁) a₂) a₃, ones-or (bitOr a₁ f₁) a₂, p .few, q .few-byzantine, r .few-byzantine)))
     (λ e. e)
     (cases-bool (covers n a₁ f₁ a₂ f₂ a₃ f₃))
 

@@ -142,7 +142,11 @@ impl PairList {
     pub fn new() -> PairList
         ensures { λ r. ⌜ Has r 1 (pair-of 0 0 ∷ []) ⌝ }
     {
-        PairList { processes: 1, len: 1, pairs: [FaultPair::EMPTY; MAX_PAIRS] }
+        PairList {
+            processes: 1,
+            len: 1,
+            pairs: [FaultPair::EMPTY; MAX_PAIRS],
+        }
     }
 
     // Replaces the whole list, or is refused and leaves it as it was.
@@ -151,7 +155,11 @@ impl PairList {
         ensures after { λ r. ⌜ Cases r (λ _. Has (now (self .exit)) processes (now (pairs .entry))) (λ _. now (self .exit) ≡ now (self .entry)) ⌝ }
     {
         let count = check_list(processes, pairs)?;
-        *self = PairList { processes: count, len: pairs.len(), pairs: table_of(pairs) };
+        *self = PairList {
+            processes: count,
+            len: pairs.len(),
+            pairs: table_of(pairs),
+        };
         Ok(())
     }
 }

@@ -25,7 +25,11 @@ impl Threshold {
         if u32::from(total) + 2 * u32::from(byzantine) >= u32::from(count) {
             return Err(RuleRefusal::TotalTooHigh);
         }
-        Ok(Threshold { processes: count, total: total as u8, byzantine: byzantine as u8 })
+        Ok(Threshold {
+            processes: count,
+            total: total as u8,
+            byzantine: byzantine as u8,
+        })
     }
 }
 

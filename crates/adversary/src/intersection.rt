@@ -21,7 +21,10 @@ impl<P, Q> Intersection<P, Q> {
     }
 }
 
-pub impl<P: AdversaryStructure, Q: AdversaryStructure> AdversaryStructure for Intersection<P, Q> as IntersectionStructure {
+pub impl<P: AdversaryStructure, Q: AdversaryStructure> AdversaryStructure for Intersection<
+    P,
+    Q,
+> as IntersectionStructure {
     ghost size = { λ r. P·AdversaryStructure .size (r .first) };
 
     ghost holding = { λ r. both (P·AdversaryStructure .holding (r .first)) (Q·AdversaryStructure .holding (r .second)) };

@@ -8,10 +8,10 @@ mod structure;
 mod threshold;
 
 pub use adopt::PairListStructure;
-pub use pair_list::MAX_PAIRS;
 pub use counts::ThresholdStructure;
 pub use intersection::Intersection;
 pub use intersection::IntersectionStructure;
+pub use pair_list::MAX_PAIRS;
 pub use pair_list::PairList;
 pub use refusal::Place;
 pub use refusal::RuleRefusal;

@@ -29,9 +29,9 @@ from (suc d) m n low high =
       least = λ k h. ⊎-elim (λ (p : k < m). absurd (omega (arith, low k p))) (λ p. p) (cases-lt k m);
     })
     (λ t.
-        let short = leb-false n (2 ^ m) t in
-        let e : suc d + m ≡ d + suc m = omega arith in
-        from d (suc m) n (λ k h. ⊎-elim (low k) (λ p. let same : m ≡ k = omega arith in subst (λ (x : ℕ). 2 ^ x < n) same short) (cases-lt k m)) (subst (λ (x : ℕ). n ≤ 2 ^ x) e high))
+    let short = leb-false n (2 ^ m) t in
+    let e : suc d + m ≡ d + suc m = omega arith in
+    from d (suc m) n (λ k h. ⊎-elim (low k) (λ p. let same : m ≡ k = omega arith in subst (λ (x : ℕ). 2 ^ x < n) same short) (cases-lt k m)) (subst (λ (x : ℕ). n ≤ 2 ^ x) e high))
 
 pub clog-is : (n : ℕ) → CeilLog n (clog n)
 clog-is n =

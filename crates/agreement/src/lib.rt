@@ -8,7 +8,25 @@ ghost use Rattle.agreement.specs.Rounds.{CeilLog, rounds-of};
 use sets::MAX_PROCESSES;
 
 // The rounds for each number of processes from 0 on.
-const ROUNDS: [u16; 17] = [0, 0, 6, 18, 24, 45, 54, 63, 72, 108, 120, 132, 144, 156, 168, 180, 192];
+const ROUNDS: [u16; 17] = [
+    0,
+    0,
+    6,
+    18,
+    24,
+    45,
+    54,
+    63,
+    72,
+    108,
+    120,
+    132,
+    144,
+    156,
+    168,
+    180,
+    192,
+];
 
 // The rounds that a crew of so many processes runs; 0 where there is no such crew.
 pub fn rounds(processes: u8) -> u16

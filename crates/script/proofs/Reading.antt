@@ -10,10 +10,10 @@ use Rattle.std.specs.declared.result.Result.the-variants.{Ok, Err}
 use Rattle.script.specs.declared.refusal.Fault.{Fault}
 use Rattle.script.specs.declared.refusal.Fault.the-variants.{Refused, Memory}
 use Rattle.script.specs.declared.refusal.Refusal.{Refusal}
-use Rattle.script.specs.Fields.{split, line-feed, Cut}
+use Rattle.fields.specs.Fields.{split, line-feed, Cut}
 use Rattle.script.specs.Refusals.{Refuses, and-then}
 use Rattle.script.specs.Sheets.{Sheet, line-read, lines-read}
-use Rattle.script.proofs.Parting.{split-some}
+use Rattle.fields.proofs.Parting.{split-some}
 
 -- the exit of a `?` that hands a fault on
 pub handed : {T : Type 0} (r : Result T Fault) (f : Fault) (P : T → Type 0) (Q : Refusal → Type 0) → ErrBy r (λ y. y ≡ f) → Refuses f Q → Cases r P (λ y. Refuses y Q)

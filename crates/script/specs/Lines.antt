@@ -12,7 +12,7 @@ use Rattle.script.specs.declared.line.Entry.{Entry}
 use Rattle.script.specs.declared.line.Entry.the-variants as entry
 use Rattle.script.specs.declared.line.Line.{Line}
 use Rattle.script.specs.declared.line.Line.the-variants as line
-use Rattle.script.specs.Fields.{then, number-in, set-in}
+use Rattle.fields.specs.Fields.{then, number-in, set-in}
 
 -- the fields of a line, its word first
 abbrev pub fields-of : Line → List (List ℕ)

@@ -18,7 +18,7 @@ use Rattle.script.specs.declared.line.Entry.{Entry}
 use Rattle.script.specs.declared.line.Entry.the-variants as entry
 use Rattle.script.specs.declared.refusal.Cause.the-variants.{Malformed, Misplaced, TooLong}
 use Rattle.script.specs.declared.refusal.Refusal.{Refusal}
-use Rattle.script.specs.Fields.{split, blank, line-feed}
+use Rattle.fields.specs.Fields.{split, blank, line-feed}
 use Rattle.script.specs.Lines.{entry-of}
 use Rattle.script.specs.Refusals.{at-line, and-then}
 

@@ -4,20 +4,23 @@ ghost use Prim.Native.Nat.{_≤_};
 ghost use lib.ListN.{length};
 ghost use Rattle.std.specs.Results.{Cases};
 ghost use Rattle.std.specs.declared.result.Result.the-variants.{Ok, Err};
-ghost use Rattle.script.specs.Fields.{split, blank, line-feed};
+ghost use Rattle.fields.specs.Fields.{split, blank, line-feed};
 ghost use Rattle.script.specs.Lines.{fields-of, line-of};
 ghost use Rattle.script.specs.Refusals.{Refuses};
-ghost use Rattle.script.specs.Sheets.{sheet-of, empty-sheet, misplaced, entered, fields-read, line-read, lines-read, most-bytes};
-use crate::fields::LINE_FEED;
-use crate::fields::split_once;
+ghost use Rattle.script.specs.Sheets.{sheet-of, empty-sheet, misplaced, entered, fields-read, line-read, lines-read, script-read, most-bytes};
 use crate::line::Entry;
 use crate::line::Line;
 use crate::refusal::Cause;
 use crate::refusal::Fault;
 use crate::refusal::FaultFromFull;
 use crate::refusal::Refusal;
+use fields::LINE_FEED;
+use fields::split_once;
 use sets::FaultPair;
 use std::alloc::Global;
+
+// The most bytes of a script.
+pub const MAX_BYTES: usize = 8192;
 
 // The number of processes, and its line.
 #[derive(Clone, Copy)]
@@ -44,11 +47,31 @@ pub struct Draft {
 }
 
 impl Draft {
+    // What a whole script gives.
+    pub fn read(heap: Global, script: &[u8]) -> Result<Draft, Fault>
+        ensures { λ r. ⌜ Cases r (λ d. script-read (now (script .entry)) ≡ Ok (sheet-of d)) (λ f. Refuses f (λ e. script-read (now (script .entry)) ≡ Err e)) ⌝ }
+    {
+        if script.len() > MAX_BYTES {
+            return Err(Fault::Refused(Refusal {
+                cause: Cause::TooLong,
+                line: 0,
+            }));
+        }
+        let mut draft = Draft::new(heap);
+        draft.read_lines(script)?;
+        Ok(draft)
+    }
+
     // Nothing yet.
-    pub(crate) fn new(heap: Global) -> Draft
+    fn new(heap: Global) -> Draft
         ensures { λ r. ⌜ sheet-of r ≡ empty-sheet ⌝ }
     {
-        Draft { seats: None, pairs: Vec::new(heap), places: Vec::new(heap), count: None }
+        Draft {
+            seats: None,
+            pairs: Vec::new(heap),
+            places: Vec::new(heap),
+            count: None,
+        }
     }
 
     // Whether an entry may not stand after what there is.
@@ -67,7 +90,10 @@ impl Draft {
         ensures { λ r. ⌜ Cases r (λ _. entered (sheet-of (now (self .entry))) line entry ≡ Ok (sheet-of (now (self .exit)))) (λ f. Refuses f (λ e. entered (sheet-of (now (self .entry))) line entry ≡ Err e)) ⌝ }
     {
         if self.misplaces(entry) {
-            return Err(Fault::Refused(Refusal { cause: Cause::Misplaced, line }));
+            return Err(Fault::Refused(Refusal {
+                cause: Cause::Misplaced,
+                line,
+            }));
         }
         match entry {
             Entry::Seats(number) => self.seats = Some(Seats { number, line }),
@@ -75,7 +101,11 @@ impl Draft {
                 self.pairs.push(pair)?;
                 self.places.push(line)?;
             }
-            Entry::Count(total, byzantine) => self.count = Some(Counts { total, byzantine, line }),
+            Entry::Count(total, byzantine) => self.count = Some(Counts {
+                total,
+                byzantine,
+                line,
+            }),
         }
         Ok(())
     }
@@ -86,7 +116,10 @@ impl Draft {
     {
         match line.entry() {
             Some(entry) => self.enter(entry, line.number()),
-            None => Err(Fault::Refused(Refusal { cause: Cause::Malformed, line: line.number() })),
+            None => Err(Fault::Refused(Refusal {
+                cause: Cause::Malformed,
+                line: line.number(),
+            })),
         }
     }
 
@@ -96,12 +129,15 @@ impl Draft {
     {
         match Line::of(text, number) {
             Some(line) => self.enter_line(line),
-            None => Err(Fault::Refused(Refusal { cause: Cause::Malformed, line: number })),
+            None => Err(Fault::Refused(Refusal {
+                cause: Cause::Malformed,
+                line: number,
+            })),
         }
     }
 
     // Reads line after line. A line without an end has not the form of any.
-    pub(crate) fn read_lines(&mut self, script: &[u8]) -> Result<(), Fault>
+    fn read_lines(&mut self, script: &[u8]) -> Result<(), Fault>
         requires { ⌜ length (now script) ≤ most-bytes ⌝ }
         ensures { λ r. ⌜ Cases r (λ _. lines-read (sheet-of (now (self .entry))) 0 (split line-feed (now (script .entry))) ≡ Ok (sheet-of (now (self .exit)))) (λ f. Refuses f (λ e. lines-read (sheet-of (now (self .entry))) 0 (split line-feed (now (script .entry))) ≡ Err e)) ⌝ }
     {
@@ -113,7 +149,10 @@ impl Draft {
             rest = next;
         }
         if !rest.is_empty() {
-            return Err(Fault::Refused(Refusal { cause: Cause::Malformed, line: number + 1 }));
+            return Err(Fault::Refused(Refusal {
+                cause: Cause::Malformed,
+                line: number + 1,
+            }));
         }
         Ok(())
     }

@@ -1,17 +1,18 @@
-// Reading a script, and writing what comes of it.
+// Reading a script: its lines, what they give, and why it is refused.
 mod draft;
-mod fields;
 mod line;
-mod output;
 mod refusal;
 
-mod verdict;
-
+pub use draft::Counts;
+pub use draft::Draft;
+pub use draft::MAX_BYTES;
+pub use draft::Seats;
+pub use line::Entry;
+pub use line::Line;
 pub use refusal::Cause;
 pub use refusal::Fault;
+pub use refusal::FaultFromAlloc;
+pub use refusal::FaultFromFull;
+pub use refusal::FaultFromRefusal;
 pub use refusal::Layer;
 pub use refusal::Refusal;
-pub use output::MAX_BYTES;
-pub use output::judge;
-pub use output::report;
-pub use verdict::Crew;

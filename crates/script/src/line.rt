@@ -5,20 +5,31 @@ ghost use lib.Chars.{codes};
 ghost use lib.ListN.{length};
 ghost use Rattle.std.specs.Options.{Cases};
 ghost use Rattle.std.specs.declared.option.Option.the-variants.{None};
-ghost use Rattle.script.specs.Fields.{split, blank};
+ghost use Rattle.fields.specs.Fields.{split, blank};
 ghost use Rattle.script.specs.Lines.{fields-of, line-of, seats-entry, pair-entry, count-entry, entry-of};
-use crate::fields::BLANK;
-use crate::fields::is_text;
-use crate::fields::number;
-use crate::fields::process_set;
-use crate::fields::split_once;
+use fields::BLANK;
+use fields::is_text;
+use fields::number;
+use fields::process_set;
+use fields::split_once;
 use sets::FaultPair;
 
 #[derive(Clone, Copy)]
 pub enum Line<'a> {
-    Seats { count: &'a [u8], line: u16 },
-    Pair { byzantine: &'a [u8], failing: &'a [u8], line: u16 },
-    Count { total: &'a [u8], byzantine: &'a [u8], line: u16 },
+    Seats {
+        count: &'a [u8],
+        line: u16,
+    },
+    Pair {
+        byzantine: &'a [u8],
+        failing: &'a [u8],
+        line: u16,
+    },
+    Count {
+        total: &'a [u8],
+        byzantine: &'a [u8],
+        line: u16,
+    },
 }
 
 // What a line says.
@@ -79,7 +90,11 @@ impl<'a> Line<'a> {
         ensures { λ r. ⌜ Cases r (pair-entry (split blank (now (fields .entry))) ≡ None) (λ l. (fields-of l ≡ codes "pair" ∷ split blank (now (fields .entry))) × (line-of l ≡ line)) ⌝ }
     {
         let (byzantine, failing) = two_fields(fields)?;
-        Some(Line::Pair { byzantine, failing, line })
+        Some(Line::Pair {
+            byzantine,
+            failing,
+            line,
+        })
     }
 
     // `count T B`
@@ -87,7 +102,11 @@ impl<'a> Line<'a> {
         ensures { λ r. ⌜ Cases r (count-entry (split blank (now (fields .entry))) ≡ None) (λ l. (fields-of l ≡ codes "count" ∷ split blank (now (fields .entry))) × (line-of l ≡ line)) ⌝ }
     {
         let (total, byzantine) = two_fields(fields)?;
-        Some(Line::Count { total, byzantine, line })
+        Some(Line::Count {
+            total,
+            byzantine,
+            line,
+        })
     }
 
     // What the line says, where its fields are of their form.
@@ -96,12 +115,20 @@ impl<'a> Line<'a> {
     {
         match self {
             Line::Seats { count, .. } => Some(Entry::Seats(number(count)?)),
-            Line::Pair { byzantine, failing, .. } => {
+            Line::Pair {
+                byzantine,
+                failing,
+                ..
+            } => {
                 let byzantine = process_set(byzantine)?;
                 let failing = process_set(failing)?;
                 Some(Entry::Pair(FaultPair { byzantine, failing }))
             }
-            Line::Count { total, byzantine, .. } => Some(Entry::Count(number(total)?, number(byzantine)?)),
+            Line::Count {
+                total,
+                byzantine,
+                ..
+            } => Some(Entry::Count(number(total)?, number(byzantine)?)),
         }
     }
 

@@ -14,13 +14,17 @@ pub struct FaultPair {
 
 impl FaultPair {
     // No faults at all: both sets are empty.
-    pub const EMPTY: FaultPair = FaultPair { byzantine: ProcessSet::EMPTY, failing: ProcessSet::EMPTY };
+    pub const EMPTY: FaultPair = FaultPair {
+        byzantine: ProcessSet::EMPTY,
+        failing: ProcessSet::EMPTY,
+    };
 
     // Whether this pair is contained in the other.
     pub fn is_within(self, other: FaultPair) -> bool
         ensures { λ r. ⌜ r ≡ contained (byz self) (fail self) (byz other) (fail other) ⌝ }
     {
-        self.byzantine.is_subset(other.byzantine) && self.failing.is_subset(other.byzantine.union(other.failing))
+        self.byzantine.is_subset(other.byzantine)
+            && self.failing.is_subset(other.byzantine.union(other.failing))
     }
 
     // Whether three pairs cover the processes 1 to `count`.

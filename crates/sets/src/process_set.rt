@@ -28,7 +28,9 @@ impl ProcessSet {
         ensures { λ r. ⌜ r ≡ set-of (full (min count limit)) ⌝ }
     {
         let count = count.min(MAX_PROCESSES);
-        ProcessSet { bits: ((1u32 << count) - 1) as Mask }
+        ProcessSet {
+            bits: ((1u32 << count) - 1) as Mask,
+        }
     }
 
     // The set of this one process; nothing where `number` is not that of a process.
@@ -38,7 +40,9 @@ impl ProcessSet {
         if number < 1 || number > MAX_PROCESSES {
             return None;
         }
-        Some(ProcessSet { bits: 1 << (number - 1) })
+        Some(ProcessSet {
+            bits: 1 << (number - 1),
+        })
     }
 
     // The set with this mask.
@@ -68,7 +72,9 @@ impl ProcessSet {
         ensures members { λ r. ⌜ ((s : ℕ) → has (r .bits) s ≡ (has (self .bits) s || has (other .bits) s)) ⌝ }
         ensures short { λ r. ⌜ r .bits < 2 ^ limit ⌝ }
     {
-        ProcessSet { bits: self.bits | other.bits }
+        ProcessSet {
+            bits: self.bits | other.bits,
+        }
     }
 
     // The processes of both sets.
@@ -76,7 +82,9 @@ impl ProcessSet {
         ensures value { λ r. ⌜ r ≡ set-of (bitAnd (self .bits) (other .bits)) ⌝ }
         ensures members { λ r. ⌜ ((s : ℕ) → has (r .bits) s ≡ (has (self .bits) s && has (other .bits) s)) ⌝ }
     {
-        ProcessSet { bits: self.bits & other.bits }
+        ProcessSet {
+            bits: self.bits & other.bits,
+        }
     }
 
     // Whether every process of this set is in the other.

@@ -25,8 +25,8 @@ returns c =
     let crew = c .first .ensures ∙ ap (λ k. set-of (full k)) same in
     let faulty = c .union-faulty .ensures .value in
     let inside : c .is-subset-inside .result ≡ subset (bitOr a f) (full n) =
-            c .is-subset-inside .ensures .value ∙ ap₂ (λ (x y : ProcessSet). subset (x .bits) (y .bits)) faulty crew in
+    c .is-subset-inside .ensures .value ∙ ap₂ (λ (x y : ProcessSet). subset (x .bits) (y .bits)) faulty crew in
     let liars : leb (c .len .result) (c .from .result) ≡ leb (ones a) (self .byzantine) = ap₂ leb (c .len .ensures) (search needs) in
     let all : leb (c .len-2 .result) (c .from-2 .result) ≡ leb (ones (bitOr a f)) (self .total) =
-            ap₂ leb (c .len-2 .ensures ∙ ap (λ (x : ProcessSet). ones (x .bits)) faulty) (search needs) in
+    ap₂ leb (c .len-2 .ensures ∙ ap (λ (x : ProcessSet). ones (x .bits)) faulty) (search needs) in
     ap₂ _&&_ inside (ap₂ _&&_ liars all)

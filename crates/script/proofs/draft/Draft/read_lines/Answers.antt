@@ -13,5 +13,5 @@ returns-in-Break-read-line c =
     let text = c .in-Some .text .now in
     handed (c .from-residual .result) (c .in-Break-read-line .field-0 .0) _ _ (c .from-residual .ensures .1)
     (refuses-map (c .in-Break-read-line .field-0 .0) _ _
-      (λ e h. sym (c .loop-text .inv .1) ∙ lines-stop s k (c .loop-text .rest .now) text (c .in-Some .next .now) e (c .in-Some .ensures tt) (subst (λ (x : ℕ). line-read s x text ≡ Err e) (add-one k) h))
-      (c .in-Break-read-line .ensures tt))
+    (λ e h. sym (c .loop-text .inv .1) ∙ lines-stop s k (c .loop-text .rest .now) text (c .in-Some .next .now) e (c .in-Some .ensures tt) (subst (λ (x : ℕ). line-read s x text ≡ Err e) (add-one k) h))
+    (c .in-Break-read-line .ensures tt))

@@ -1,7 +1,7 @@
 use mathlib.Core.Path.{_≡_}
 use Prim.Native.Nat.{_+_, _≤_}
 use lib.ListN.{length}
-use Rattle.script.specs.Fields.{split, line-feed}
+use Rattle.fields.specs.Fields.{split, line-feed}
 use Rattle.script.specs.Sheets.{sheet-of, lines-read, most-bytes}
 use Rattle.script.proofs.draft.Draft.read_lines.Given as given
 

@@ -1,6 +1,6 @@
 use Rattle.std.proofs.shelf.Equals.{matches-decides, sameBytes-decides}
 use Rattle.std.proofs.shelf.Ways.{same-from-decides}
-use Rattle.script.proofs.fields.is_text.Needs as need
+use Rattle.fields.proofs.is_text.Needs as need
 
 pub returns : need.returns
 returns c =

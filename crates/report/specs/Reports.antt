@@ -8,9 +8,9 @@ use Rattle.std.specs.declared.result.Result.the-variants.{Ok, Err}
 use Rattle.adversary.specs.declared.refusal.Place.{Place}
 use Rattle.adversary.specs.declared.refusal.Place.the-variants.{Nowhere, At, Three}
 use Rattle.agreement.specs.Rounds.{rounds-of}
 use Rattle.script.specs.declared.refusal.Refusal.{Refusal}
 use Rattle.script.specs.Refusals.{number-of, layer-of, place-of, name-of}
-use Rattle.script.specs.Verdicts.{judgement}
+use Rattle.report.specs.Verdicts.{judgement}
 
 -- a place is 0, a number, or three numbers joined by commas
 abbrev pub place-text : Place → List ℕ

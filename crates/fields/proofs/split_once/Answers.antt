@@ -4,9 +4,9 @@ use Prim.Native.Nat.{ℕ, suc, _+_, _-_, _<_}
 use native.Mathlib.Omega.{arith}
 use lib.ListN.{length, take, drop, length-drop}
 use Rattle.std.proofs.shelf.Lists.{take-rest}
-use Rattle.script.specs.Fields.{split, run}
-use Rattle.script.proofs.Parting.{split-at, split-whole, split-some}
-use Rattle.script.proofs.fields.split_once.Needs as need
+use Rattle.fields.specs.Fields.{split, run}
+use Rattle.fields.proofs.Parting.{split-at, split-whole, split-some}
+use Rattle.fields.proofs.split_once.Needs as need
 
 pub returns-then-n-text : need.returns-then-n-text
 returns-then-n-text c = split-whole (c .args .stop) (c .args .text .now) (sym (c .run-length-n .ensures .value) ∙ c .if-n-text .taken)

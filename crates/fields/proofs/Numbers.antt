@@ -12,7 +12,7 @@ use Rattle.std.proofs.shelf.Lists.{at-drop-more, at-drop-all}
 use Rattle.std.proofs.shelf.Tests.{cond-true, cond-false, le-leb, lt-leb, and-from, and-left, and-right}
 use Rattle.std.specs.declared.option.Option.{Option}
 use Rattle.std.specs.declared.option.Option.the-variants.{Some, None}
-use Rattle.script.specs.Fields.{digits-from, number-in}
+use Rattle.fields.specs.Fields.{digits-from, number-in}
 
 module _ (n : ℕ) (bs : List ℕ) (i : ℕ) where
   pub digits-on : i < length bs → 48 ≤ getD bs i 0 → getD bs i 0 ≤ 57 → digits-from n (drop i bs) ≡ digits-from (10 * n + (getD bs i 0 - 48)) (drop (i + 1) bs)

@@ -1,7 +1,7 @@
 use mathlib.Core.Path.{sym}
 use native.Mathlib.Omega.{arith}
-use Rattle.script.proofs.Parting.{run-found, run-on, run-end}
-use Rattle.script.proofs.fields.run_length.Needs as need
+use Rattle.fields.proofs.Parting.{run-found, run-on, run-end}
+use Rattle.fields.proofs.run_length.Needs as need
 
 pub returns-then-b-stop : need.returns-then-b-stop
 returns-then-b-stop c =

@@ -8,7 +8,7 @@ use lib.Dec.{eqb}
 use lib.ListN.{length, take, drop, getD}
 use Rattle.std.proofs.shelf.Lists.{at-drop-more, at-drop-all}
 use Rattle.std.proofs.shelf.Tests.{cond-true, cond-false, cond-both, eq-eqb, ne-eqb}
-use Rattle.script.specs.Fields.{onto, split, run}
+use Rattle.fields.specs.Fields.{onto, split, run}
 
 -- the piece before the first stop, and the pieces of what follows it
 pub split-at : (stop : ℕ) (bs : List ℕ) → run stop bs < length bs → split stop bs ≡ take (run stop bs) bs ∷ split stop (drop (suc (run stop bs)) bs)

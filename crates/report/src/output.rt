@@ -5,33 +5,26 @@ ghost use Rattle.std.specs.Results.{Cases};
 ghost use Rattle.std.specs.Vec.{made};
 ghost use Rattle.std.specs.declared.result.Result.the-variants.{Ok, Err};
 ghost use Rattle.agreement.specs.Rounds.{rounds-of};
 ghost use Rattle.script.specs.Refusals.{Refuses};
-ghost use Rattle.script.specs.Reports.{crew-text, place-text, refused-text, refusal-text, report-of};
-ghost use Rattle.script.specs.Verdicts.{judgement};
-use adversary::Place;
-use crate::draft::Draft;
-use crate::refusal::Cause;
-use crate::refusal::Fault;
-use crate::refusal::FaultFromRefusal;
-use crate::refusal::Refusal;
+ghost use Rattle.report.specs.Reports.{crew-text, place-text, refused-text, refusal-text, report-of};
+ghost use Rattle.report.specs.Verdicts.{judgement};
 use crate::verdict::Crew;
+use crate::verdict::judge_draft;
+use adversary::Place;
+use script::Draft;
+use script::Fault;
+use script::FaultFromRefusal;
+use script::Refusal;
 use std::alloc::AllocError;
 use std::alloc::Global;
-
-// The most bytes of a script.
-pub const MAX_BYTES: usize = 8192;
 
 // The crew of an accepted script.
 pub fn judge(heap: Global, script: &[u8]) -> Result<Crew, Fault>
     ensures verdict { λ r. ⌜ Cases r (λ c. judgement (now (script .entry)) ≡ Ok (c .processes)) (λ f. Refuses f (λ e. judgement (now (script .entry)) ≡ Err e)) ⌝ }
     ensures rounds { λ r. ⌜ made r (λ c. c .rounds ≡ rounds-of (c .processes)) ⌝ }
 {
-    if script.len() > MAX_BYTES {
-        return Err(Fault::Refused(Refusal { cause: Cause::TooLong, line: 0 }));
-    }
-    let mut draft = Draft::new(heap);
-    draft.read_lines(script)?;
-    Ok(draft.judge()?)
+    let draft = Draft::read(heap, script)?;
+    Ok(judge_draft(&draft)?)
 }
 
 // `seats N rounds T`
@@ -56,7 +49,13 @@ fn place_field(heap: Global, place: Place) -> Result<String, AllocError>
 }
 
 // The line of these fields.
-fn refused_line(heap: Global, number: u8, layer: &str, place: &str, line: u16) -> Result<String, AllocError>
+fn refused_line(
+    heap: Global,
+    number: u8,
+    layer: &str,
+    place: &str,
+    line: u16,
+) -> Result<String, AllocError>
     ensures { λ r. ⌜ made r (λ t. string-bytes t ≡ refused-text number (now (layer .entry)) (now (place .entry)) line) ⌝ }
 {
     format!(heap, "refused {number} {layer} {place} {line}\n")
@@ -67,11 +66,17 @@ fn refusal_line(heap: Global, refusal: Refusal) -> Result<String, AllocError>
     ensures { λ r. ⌜ made r (λ t. string-bytes t ≡ refusal-text refusal) ⌝ }
 {
     let place = place_field(heap, refusal.place())?;
-    refused_line(heap, refusal.number(), refusal.layer().name(), place.as_str(), refusal.line)
+    refused_line(
+        heap,
+        refusal.number(),
+        refusal.layer().name(),
+        place.as_str(),
+        refusal.line,
+    )
 }
 
 // All that is printed for a script: its crew, or its refusal.
-pub fn report(heap: Global, script: &[u8]) -> Result<String, AllocError>
+pub fn report_of(heap: Global, script: &[u8]) -> Result<String, AllocError>
     ensures { λ r. ⌜ made r (λ t. string-bytes t ≡ report-of (now (script .entry))) ⌝ }
 {
     match judge(heap, script) {

@@ -7,16 +7,19 @@ ghost use lib.ListN.{length, take, drop};
 ghost use Rattle.std.specs.Options.{Cases};
 ghost use Rattle.std.specs.shelf.Text.{sameBytes};
 ghost use Rattle.sets.specs.Sets.{set-of};
-ghost use Rattle.script.specs.Fields.{run, split, Cut, comma, number-in, member-in, union-in, set-in};
+ghost use Rattle.fields.specs.Fields.{run, split, Cut, comma, number-in, member-in, union-in, set-in};
 use sets::ProcessSet;
 
-pub(crate) const LINE_FEED: u8 = b'\n';
-pub(crate) const BLANK: u8 = b' ';
+pub const LINE_FEED: u8 = b'\n';
+
+pub const BLANK: u8 = b' ';
+
 const COMMA: u8 = b',';
+
 const MAX_DIGITS: usize = 3;
 
 // Whether a field is this text.
-pub(crate) fn is_text(field: &[u8], text: &[u8]) -> bool
+pub fn is_text(field: &[u8], text: &[u8]) -> bool
     ensures value { λ r. ⌜ r ≡ sameBytes (now (field .entry)) (now (text .entry)) ⌝ }
     ensures same { λ r. ⌜ (r ≡ true → now (field .entry) ≡ now (text .entry)) ⌝ }
 {
@@ -37,7 +40,7 @@ fn run_length(text: &[u8], stop: u8) -> usize
 }
 
 // The piece before the first `stop` and what follows that byte; nothing where the text has none.
-pub(crate) fn split_once(text: &[u8], stop: u8) -> Option<(&[u8], &[u8])>
+pub fn split_once(text: &[u8], stop: u8) -> Option<(&[u8], &[u8])>
     ensures { λ r. ⌜ Cases r (split stop (now (text .entry)) ≡ now (text .entry) ∷ []) (λ p. Cut stop (now (text .entry)) (now (p .0)) (now (p .1))) ⌝ }
 {
     let n = run_length(text, stop);
@@ -48,7 +51,7 @@ pub(crate) fn split_once(text: &[u8], stop: u8) -> Option<(&[u8], &[u8])>
 }
 
 // A number of one to three digits.
-pub(crate) fn number(field: &[u8]) -> Option<u16>
+pub fn number(field: &[u8]) -> Option<u16>
     ensures value { λ r. ⌜ r ≡ number-in (now (field .entry)) ⌝ }
     ensures small { λ r. ⌜ Cases r (Unit {0}) (λ n. n < 1000) ⌝ }
 {
@@ -89,7 +92,7 @@ fn joined_set(field: &[u8]) -> Option<ProcessSet>
 }
 
 // Process numbers joined by commas, or a dash for none.
-pub(crate) fn process_set(field: &[u8]) -> Option<ProcessSet>
+pub fn process_set(field: &[u8]) -> Option<ProcessSet>
     ensures { λ r. ⌜ r ≡ set-in (now (field .entry)) ⌝ }
 {
     if is_text(field, b"-") {

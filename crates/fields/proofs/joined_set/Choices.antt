@@ -1,8 +1,8 @@
 use mathlib.Core.Path.{_≡_}
 use lib.ListN.{length}
 use Rattle.sets.specs.Sets.{set-of}
-use Rattle.script.specs.Fields.{split, comma, union-in}
-use Rattle.script.proofs.fields.joined_set.Given as given
+use Rattle.fields.specs.Fields.{split, comma, union-in}
+use Rattle.fields.proofs.joined_set.Given as given
 
 abbrev pub Inv-loop-piece : given.InvT-loop-piece
 Inv-loop-piece l = union-in (l .set) (split comma (l .rest)) ≡ union-in (set-of 0) (split comma (l .entry .rest))
