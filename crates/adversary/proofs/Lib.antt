@@ -1,3 +1,4 @@
+pub mod Blame
 pub mod ListLaws
 pub mod Refusing
 pub mod Search

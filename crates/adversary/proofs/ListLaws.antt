@@ -16,7 +16,7 @@ use Rattle.sets.specs.Pairs.{contained, covers, byz, fail}
 use Rattle.sets.specs.Sets.{limit, numbered}
 use Rattle.sets.proofs.Covering.{contained-trans, none-contained, covers-wider, covers-swap, covers-turn}
 use Rattle.adversary.specs.Laws.{Sized, Lawful}
-use Rattle.adversary.specs.Refusals.{when, blamed, size-refusal, length-refusal, pairs-refusal, cover-refusal, least-cover, second-from, third-from, covers-at, pair-at, list-refusal, adoptable}
+use Rattle.adversary.specs.Refusals.{when, blamed, size-refusal, length-refusal, pairs-refusal, cover-refusal, least-cover, second-from, third-from, covers-at, pair-at, list-refusal, adoptable, Coverless}
 use Rattle.adversary.specs.Rules.{listed}
 use Rattle.adversary.proofs.Search.{or-else-none, first-empty}
 
@@ -59,13 +59,19 @@ listed-empty : (ps : List FaultPair) → 0 < length ps → listed ps 0 0 ≡ tru
 listed-empty [] h = absurd (omega arith)
 listed-empty (p ∷ ps) h = or-left (contained 0 0 (byz p) (fail p)) (listed ps 0 0) (none-contained (byz p) (fail p))
 
+-- where the search from i and j, or from i, finds nothing, there is nothing
+module _ (n : ℕ) (ps : List FaultPair) where
+  pub third-empty : (i j k : ℕ) → third-from n ps i j ≡ None → j ≤ k → k < length ps → covers-at n ps i j k ≡ false
+  third-empty i j k none q r =
+      when-none (covers-at n ps i j k) (i, j, k) (first-empty (λ k. when (covers-at n ps i j k) (i, j, k)) (length ps - j) j none k q (omega arith))
+
+  pub second-empty : (i j k : ℕ) → second-from n ps i ≡ None → i ≤ j → j ≤ k → k < length ps → covers-at n ps i j k ≡ false
+  second-empty i j k none p q r = third-empty i j k (first-empty (third-from n ps i) (length ps - i) i none j p (omega arith)) q r
+
 module _ (n : ℕ) (ps : List FaultPair) (none : least-cover n ps ≡ None) where
   -- three listed pairs in order
   ordered : (i j k : ℕ) → i ≤ j → j ≤ k → k < length ps → covers-at n ps i j k ≡ false
-  ordered i j k p q r =
-      let second : second-from n ps i ≡ None = first-empty (second-from n ps) (length ps) 0 none i (omega arith) (omega arith) in
-      let third : third-from n ps i j ≡ None = first-empty (third-from n ps i) (length ps - i) i second j p (omega arith) in
-      when-none (covers-at n ps i j k) (i, j, k) (first-empty (λ k. when (covers-at n ps i j k) (i, j, k)) (length ps - j) j third k q (omega arith))
+  ordered i j k p q r = second-empty n ps i j k (first-empty (second-from n ps) (length ps) 0 none i (omega arith) (omega arith)) p q r
 
   abbrev Apart : ℕ → ℕ → ℕ → Type 0
   Apart i j k = covers-at n ps i j k ≡ true → ⊥
@@ -98,6 +104,9 @@ module _ (n : ℕ) (ps : List FaultPair) (none : least-cover n ps ≡ None) wher
       (cases-lt j k))
       (cases-lt i k))
       (cases-lt i j)
+
+pub coverless : (n : ℕ) (ps : List FaultPair) → least-cover n ps ≡ None → Coverless n ps
+coverless n ps none i j k x y z = ⊎-elim (λ t. absurd (any-order n ps none i j k x y z t)) (λ e. e) (cases-bool (covers-at n ps i j k))
 
 -- what a list that can be adopted is
 pub record Adopted (n : ℕ) (ps : List FaultPair) : Type 0 where

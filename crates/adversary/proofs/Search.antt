@@ -41,3 +41,14 @@ module _ {X : Type 0} (f : ℕ → Option X) where
       (λ (same : s ≡ k). ap f (sym same) ∙ p .0)
       (λ (ne : s ≡ k → ⊥). first-empty c (suc s) (p .1) k (omega arith) (omega arith))
       (cases-eq s k)
+
+  -- where it finds something, that is the first
+  pub first-is : (c s : ℕ) (x : X) → first f s c ≡ Some x → (k : ℕ) × (s ≤ k) × (k < s + c) × (f k ≡ Some x) × ((m : ℕ) → s ≤ m → m < k → f m ≡ None)
+  first-is zero s x e = absurd (let z : _≡_ {A = ℕ} 0 1 = cc in omega arith)
+  first-is (suc c) s x e = at (f s) refl e (first-is c (suc s) x)
+    where
+      at : (o : Option X) → f s ≡ o → or-else o (first f (suc s) c) ≡ Some x → (first f (suc s) c ≡ Some x → (k : ℕ) × (suc s ≤ k) × (k < suc s + c) × (f k ≡ Some x) × ((m : ℕ) → suc s ≤ m → m < k → f m ≡ None)) → (k : ℕ) × (s ≤ k) × (k < s + suc c) × (f k ≡ Some x) × ((m : ℕ) → s ≤ m → m < k → f m ≡ None)
+      at None h e ih =
+          let r = ih e in
+          (r .0, omega (arith, r .1), omega (arith, r .2), r .3, λ m low high. ⊎-elim (λ (same : s ≡ m). ap f (sym same) ∙ h) (λ (ne : s ≡ m → ⊥). r .4 m (omega arith) high) (cases-eq s m))
+      at (Some y) h e ih = (s, omega arith, omega arith, h ∙ e, λ m low high. absurd (omega arith))

@@ -2,6 +2,7 @@
 use mathlib.Core.Path.{_≡_}
 use mathlib.Core.Bool.{Bool, true, false, cond, not, _&&_, _||_}
 use mathlib.Core.List.{List, [], _∷_}
+use mathlib.Core.Logic.{_⊎_}
 use Prim.Native.Nat.{ℕ, zero, suc, _+_, _-_, _*_, _<_, _≤_}
 use lib.Bits.{bitAnd, bitOr}
 use lib.Dec.{eqb, leb, ltb}
@@ -66,9 +67,17 @@ size-refusal n = when (not (numbered n)) Processes
 abbrev pub length-refusal : ℕ → Option RuleRefusal
 length-refusal m = when (eqb m 0 || ltb most-pairs m) PairCount
 
--- one pair at place i. 3: it has a process above n; 4: a process is in both of its sets
+-- whether a pair has a process above n
+abbrev pub above : ℕ → FaultPair → Bool
+above n p = not (subset (bitOr (byz p) (fail p)) (full n))
+
+-- whether a process is in both sets of a pair
+abbrev pub overlaps : FaultPair → Bool
+overlaps p = not (eqb (bitAnd (byz p) (fail p)) 0)
+
+-- one pair at place i: 3, then 4
 abbrev pub pair-refusal : ℕ → ℕ → FaultPair → Option RuleRefusal
-pair-refusal n i p = or-else (when (not (subset (bitOr (byz p) (fail p)) (full n))) (AboveProcesses i)) (when (not (eqb (bitAnd (byz p) (fail p)) 0)) (InBothSets i))
+pair-refusal n i p = or-else (when (above n p) (AboveProcesses i)) (when (overlaps p) (InBothSets i))
 
 -- pair by pair in order, the first at place i
 abbrev pub pairs-refusal : ℕ → ℕ → List FaultPair → Option RuleRefusal
@@ -106,6 +115,27 @@ cover-refusal n ps = blamed (least-cover n ps)
 -- what adopting n and these pairs is refused with, if at all: 1, 2, then 3 and 4 pair by pair, then 5
 abbrev pub list-refusal : ℕ → List FaultPair → Option RuleRefusal
 list-refusal n ps = or-else (size-refusal n) (or-else (length-refusal (length ps)) (or-else (pairs-refusal n 1 ps) (cover-refusal n ps)))
+
+-- the places i′ ≤ j′ ≤ k′ come before i ≤ j ≤ k: a smaller first, else a smaller second, else a smaller third
+abbrev pub Before : ℕ → ℕ → ℕ → ℕ → ℕ → ℕ → Type 0
+Before i′ j′ k′ i j k = (i′ < i) ⊎ ((i′ ≡ i) × ((j′ < j) ⊎ ((j′ ≡ j) × (k′ < k))))
+
+-- three places of listed pairs, counted from 1
+pub record Places (ps : List FaultPair) (i j k : ℕ) : Type 0 where
+  pub first-place : 1 ≤ i
+  pub second-place : i ≤ j
+  pub third-place : j ≤ k
+  pub last-place : k ≤ length ps
+
+-- 5 is right to name i, j and k: the listed pairs there cover n processes, and none do that come before them
+pub record Blamed (n : ℕ) (ps : List FaultPair) (i j k : ℕ) : Type 0 where
+  pub places : Places ps i j k
+  pub cover : covers-at n ps (i - 1) (j - 1) (k - 1) ≡ true
+  pub least : (i′ j′ k′ : ℕ) → Places ps i′ j′ k′ → Before i′ j′ k′ i j k → covers-at n ps (i′ - 1) (j′ - 1) (k′ - 1) ≡ false
+
+-- no three listed pairs cover n processes, in whatever order
+abbrev pub Coverless : ℕ → List FaultPair → Type 0
+Coverless n ps = (i j k : ℕ) → i < length ps → j < length ps → k < length ps → covers-at n ps i j k ≡ false
 
 -- whether they can be adopted
 abbrev pub adoptable : ℕ → List FaultPair → Bool

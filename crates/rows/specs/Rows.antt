@@ -1,0 +1,69 @@
+-- Worked examples of the definitions.
+use mathlib.Core.Bool.{Bool, true, false, not, _&&_}
+use mathlib.Core.List.{List, [], _∷_}
+use Prim.Native.Nat.{ℕ}
+use lib.Dec.{eqb}
+use Rattle.std.specs.Options.{isSome}
+use Rattle.std.specs.declared.option.Option.{Option}
+use Rattle.std.specs.declared.option.Option.the-variants.{Some, None}
+use Rattle.sets.specs.Pairs.{contained, pair-of}
+use Rattle.sets.specs.declared.fault_pair.FaultPair.{FaultPair}
+use Rattle.adversary.specs.Refusals.{list-refusal, threshold-refusal, number-of, place-of}
+use Rattle.adversary.specs.declared.refusal.Place.{Place}
+use Rattle.adversary.specs.declared.refusal.Place.the-variants.{Nowhere, At, Three}
+use Rattle.adversary.specs.declared.refusal.RuleRefusal.{RuleRefusal}
+
+-- whether a refusal comes with this number at these three places
+abbrev at-three : Place → ℕ → ℕ → ℕ → Bool
+at-three Nowhere i j k = false
+at-three (At p) i j k = false
+at-three (Three p q r) i j k = eqb p i && (eqb q j && eqb r k)
+
+abbrev covered-at : Option RuleRefusal → ℕ → ℕ → ℕ → Bool
+covered-at None i j k = false
+covered-at (Some e) i j k = eqb (number-of e) 5 && at-three (place-of e) i j k
+
+-- whether a refusal comes with this number
+abbrev refused-with : Option RuleRefusal → ℕ → Bool
+refused-with None n = false
+refused-with (Some e) n = eqb (number-of e) n
+
+-- the sets {1}, {2}, {3}, {1, 2} and {2, 3} as masks
+abbrev one : ℕ
+one = 1
+
+abbrev two : ℕ
+two = 2
+
+abbrev three : ℕ
+three = 4
+
+abbrev one-two : ℕ
+one-two = 3
+
+abbrev two-three : ℕ
+two-three = 6
+
+-- ({1}, {2, 3}) contains (∅, {1, 2}), and not ({2}, ∅)
+abbrev containment : Bool
+containment = contained 0 one-two one two-three && not (contained two 0 one two-three)
+
+-- three liars of three cover the crew: 5 at 1, 2, 3
+abbrev three-liars : Bool
+three-liars = covered-at (list-refusal 3 (pair-of one 0 ∷ pair-of two 0 ∷ pair-of three 0 ∷ [])) 1 2 3
+
+-- two that may fail together cover a crew of two: 5 at 1, 1, 1
+abbrev both-fail : Bool
+both-fail = covered-at (list-refusal 2 (pair-of 0 one-two ∷ [])) 1 1 1
+
+-- two of which either may fail are adopted
+abbrev either-fails : Bool
+either-fails = not (isSome (list-refusal 2 (pair-of 0 one ∷ pair-of 0 two ∷ [])))
+
+-- eight processes, three faulty, two of them Byzantine: accepted; four faulty: 7
+abbrev counts : Bool
+counts = not (isSome (threshold-refusal 8 3 2)) && refused-with (threshold-refusal 8 4 2) 7
+
+-- all of the above
+unfoldable pub rows : Bool
+rows = containment && (three-liars && (both-fail && (either-fails && counts)))
