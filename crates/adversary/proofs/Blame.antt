@@ -10,8 +10,8 @@ use Rattle.std.specs.declared.option.Option.{Option}
 use Rattle.std.specs.declared.option.Option.the-variants.{Some, None}
 use Rattle.std.specs.Options.{isSome}
 use Rattle.sets.specs.declared.fault_pair.FaultPair.{FaultPair}
-use Rattle.adversary.specs.declared.refusal.RuleRefusal.{RuleRefusal}
-use Rattle.adversary.specs.declared.refusal.RuleRefusal.the-variants.{Cover, Processes, PairCount, AboveProcesses, InBothSets}
+use Rattle.refusal.specs.declared.rule.RuleRefusal.{RuleRefusal}
+use Rattle.refusal.specs.declared.rule.RuleRefusal.the-variants.{Cover, Processes, PairCount, AboveProcesses, InBothSets}
 use Rattle.adversary.specs.Refusals.{or-else, when, first, blamed, covers-at, third-from, second-from, least-cover, size-refusal, length-refusal, above, overlaps, pair-refusal, pairs-refusal, list-refusal, Before, Places, Blamed, Coverless}
 use Rattle.adversary.proofs.ListLaws.{when-none, third-empty, second-empty, adopted, coverless}
 use Rattle.adversary.proofs.Search.{first-is}

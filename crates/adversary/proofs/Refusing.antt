@@ -11,7 +11,7 @@ use Rattle.std.specs.declared.option.Option.the-variants.{Some, None}
 use Rattle.std.specs.declared.result.Result.the-variants.{Ok, Err}
 use Rattle.sets.specs.declared.fault_pair.FaultPair.{FaultPair}
 use Rattle.sets.specs.Pairs.{pair-of}
-use Rattle.adversary.specs.declared.refusal.RuleRefusal.{RuleRefusal}
+use Rattle.refusal.specs.declared.rule.RuleRefusal.{RuleRefusal}
 use Rattle.adversary.specs.Refusals.{answered, or-else, when, pair-refusal, pairs-refusal}
 
 pub answered-ok : {X : Type 0} (x y : X) (o : Option RuleRefusal) → Ok y ≡ answered x o → o ≡ None

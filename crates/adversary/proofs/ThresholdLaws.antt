@@ -15,7 +15,7 @@ use Rattle.sets.proofs.Counting.{ones-or, ones-subset, ones-full}
 use Rattle.sets.proofs.Covering.{contained-members, Covered, by-first, by-second, by-third, by-all, in-covered}
 use Rattle.adversary.specs.Laws.{Sized, Lawful}
 use Rattle.std.specs.declared.option.Option.the-variants.{None}
-use Rattle.adversary.specs.declared.refusal.RuleRefusal.the-variants.{ByzantineAboveTotal, TotalTooHigh}
+use Rattle.refusal.specs.declared.rule.RuleRefusal.the-variants.{ByzantineAboveTotal, TotalTooHigh}
 use Rattle.adversary.specs.Refusals.{when, size-refusal, threshold-refusal, tolerable}
 use Rattle.adversary.specs.Rules.{within, both}
 use Rattle.adversary.proofs.ListLaws.{unless, when-none}

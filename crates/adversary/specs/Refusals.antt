@@ -1,4 +1,4 @@
--- What a rule is refused with: the printed numbers, the places, and when each comes.
+-- What a rule is refused with, and when.
 use mathlib.Core.Path.{_≡_}
 use mathlib.Core.Bool.{Bool, true, false, cond, not, _&&_, _||_}
 use mathlib.Core.List.{List, [], _∷_}
@@ -15,30 +15,8 @@ use Rattle.std.specs.declared.result.Result.the-variants.{Ok, Err}
 use Rattle.sets.specs.declared.fault_pair.FaultPair.{FaultPair}
 use Rattle.sets.specs.Pairs.{contained, covers, byz, fail, pair-of}
 use Rattle.sets.specs.Sets.{subset, full, numbered}
-use Rattle.adversary.specs.declared.refusal.Place.{Place}
-use Rattle.adversary.specs.declared.refusal.Place.the-variants.{Nowhere, At, Three}
-use Rattle.adversary.specs.declared.refusal.RuleRefusal.{RuleRefusal}
-use Rattle.adversary.specs.declared.refusal.RuleRefusal.the-variants.{Processes, PairCount, AboveProcesses, InBothSets, Cover, ByzantineAboveTotal, TotalTooHigh}
-
--- the printed number of a refusal
-abbrev pub number-of : RuleRefusal → ℕ
-number-of Processes = 1
-number-of PairCount = 2
-number-of (AboveProcesses i) = 3
-number-of (InBothSets i) = 4
-number-of (Cover i j k) = 5
-number-of ByzantineAboveTotal = 6
-number-of TotalTooHigh = 7
-
--- its place: one listed pair, three of them, or none; listed pairs are counted from 1
-abbrev pub place-of : RuleRefusal → Place
-place-of Processes = Nowhere
-place-of PairCount = Nowhere
-place-of (AboveProcesses i) = At i
-place-of (InBothSets i) = At i
-place-of (Cover i j k) = Three i j k
-place-of ByzantineAboveTotal = Nowhere
-place-of TotalTooHigh = Nowhere
+use Rattle.refusal.specs.declared.rule.RuleRefusal.{RuleRefusal}
+use Rattle.refusal.specs.declared.rule.RuleRefusal.the-variants.{Processes, PairCount, AboveProcesses, InBothSets, Cover, ByzantineAboveTotal, TotalTooHigh}
 
 -- the first of two refusals that comes
 abbrev pub or-else : {X : Type 0} → Option X → Option X → Option X

@@ -6,7 +6,7 @@ ghost use Rattle.adversary.specs.Counts.{Counts};
 ghost use Rattle.adversary.specs.Refusals.{threshold-refusal};
 ghost use Rattle.adversary.specs.Rules.{within};
 use crate::adopt::process_count;
-use crate::refusal::RuleRefusal;
+use refusal::RuleRefusal;
 use crate::structure::AdversaryStructure;
 use crate::threshold::Threshold;
 use sets::FaultPair;

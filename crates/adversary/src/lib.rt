@@ -3,7 +3,6 @@ mod adopt;
 mod counts;
 mod intersection;
 mod pair_list;
-mod refusal;
 mod structure;
 mod threshold;
 
@@ -13,7 +12,5 @@ pub use intersection::Intersection;
 pub use intersection::IntersectionStructure;
 pub use pair_list::MAX_PAIRS;
 pub use pair_list::PairList;
-pub use refusal::Place;
-pub use refusal::RuleRefusal;
 pub use structure::AdversaryStructure;
 pub use threshold::Threshold;

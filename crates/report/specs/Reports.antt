@@ -5,11 +5,11 @@ use lib.Chars.{codes}
 use Rattle.std.specs.Written.{decimal}
 use Rattle.std.specs.declared.result.Result.{Result}
 use Rattle.std.specs.declared.result.Result.the-variants.{Ok, Err}
-use Rattle.adversary.specs.declared.refusal.Place.{Place}
-use Rattle.adversary.specs.declared.refusal.Place.the-variants.{Nowhere, At, Three}
+use Rattle.refusal.specs.declared.place.Place.{Place}
+use Rattle.refusal.specs.declared.place.Place.the-variants.{Nowhere, At, Three}
 use Rattle.agreement.specs.Rounds.{rounds-of}
-use Rattle.script.specs.declared.refusal.Refusal.{Refusal}
-use Rattle.script.specs.Refusals.{number-of, layer-of, place-of, name-of}
+use Rattle.refusal.specs.declared.script.Refusal.{Refusal}
+use Rattle.refusal.specs.Numbers.{number-of, layer-of, place-of, name-of}
 use Rattle.report.specs.Verdicts.{judgement}
 
 -- a place is 0, a number, or three numbers joined by commas

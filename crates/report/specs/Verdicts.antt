@@ -10,13 +10,14 @@ use Rattle.std.specs.declared.result.Result.{Result}
 use Rattle.std.specs.declared.result.Result.the-variants.{Ok, Err}
 use Rattle.sets.specs.declared.fault_pair.FaultPair.{FaultPair}
 use Rattle.adversary.specs.Refusals.{or-else, list-refusal, threshold-refusal}
-use Rattle.adversary.specs.declared.refusal.RuleRefusal.{RuleRefusal}
-use Rattle.adversary.specs.declared.refusal.RuleRefusal.the-variants.{Processes, PairCount, AboveProcesses, InBothSets, Cover, ByzantineAboveTotal, TotalTooHigh}
+use Rattle.refusal.specs.declared.rule.RuleRefusal.{RuleRefusal}
+use Rattle.refusal.specs.declared.rule.RuleRefusal.the-variants.{Processes, PairCount, AboveProcesses, InBothSets, Cover, ByzantineAboveTotal, TotalTooHigh}
 use Rattle.script.specs.declared.draft.Counts.{Counts}
 use Rattle.script.specs.declared.draft.Seats.{Seats}
-use Rattle.script.specs.declared.refusal.Cause.the-variants.{Misplaced, Rule}
-use Rattle.script.specs.declared.refusal.Refusal.{Refusal}
-use Rattle.script.specs.Refusals.{at-line, and-then}
+use Rattle.refusal.specs.declared.script.Cause.the-variants.{Misplaced, Rule}
+use Rattle.refusal.specs.declared.script.Refusal.{Refusal}
+use Rattle.refusal.specs.Numbers.{at-line}
+use Rattle.script.specs.Refusals.{and-then}
 use Rattle.script.specs.Sheets.{Sheet, script-read}
 
 -- the line of the counts, or 0

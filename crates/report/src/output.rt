@@ -10,11 +10,11 @@ ghost use Rattle.report.specs.Reports.{crew-text, place-text, refused-text, re
 ghost use Rattle.report.specs.Verdicts.{judgement};
 use crate::verdict::Crew;
 use crate::verdict::judge_draft;
-use adversary::Place;
+use refusal::Place;
 use script::Draft;
 use script::Fault;
 use script::FaultFromRefusal;
-use script::Refusal;
+use refusal::Refusal;
 use std::alloc::AllocError;
 use std::alloc::Global;
 

@@ -8,10 +8,11 @@ use Rattle.std.specs.declared.option.Option.{Option}
 use Rattle.std.specs.declared.option.Option.the-variants.{Some, None}
 use Rattle.sets.specs.Pairs.{contained, pair-of}
 use Rattle.sets.specs.declared.fault_pair.FaultPair.{FaultPair}
-use Rattle.adversary.specs.Refusals.{list-refusal, threshold-refusal, number-of, place-of}
-use Rattle.adversary.specs.declared.refusal.Place.{Place}
-use Rattle.adversary.specs.declared.refusal.Place.the-variants.{Nowhere, At, Three}
-use Rattle.adversary.specs.declared.refusal.RuleRefusal.{RuleRefusal}
+use Rattle.adversary.specs.Refusals.{list-refusal, threshold-refusal}
+use Rattle.refusal.specs.Numbers.{rule-number, rule-place}
+use Rattle.refusal.specs.declared.place.Place.{Place}
+use Rattle.refusal.specs.declared.place.Place.the-variants.{Nowhere, At, Three}
+use Rattle.refusal.specs.declared.rule.RuleRefusal.{RuleRefusal}
 
 -- whether a refusal comes with this number at these three places
 abbrev at-three : Place → ℕ → ℕ → ℕ → Bool
@@ -21,12 +22,12 @@ at-three (Three p q r) i j k = eqb p i && (eqb q j && eqb r k)
 
 abbrev covered-at : Option RuleRefusal → ℕ → ℕ → ℕ → Bool
 covered-at None i j k = false
-covered-at (Some e) i j k = eqb (number-of e) 5 && at-three (place-of e) i j k
+covered-at (Some e) i j k = eqb (rule-number e) 5 && at-three (rule-place e) i j k
 
 -- whether a refusal comes with this number
 abbrev refused-with : Option RuleRefusal → ℕ → Bool
 refused-with None n = false
-refused-with (Some e) n = eqb (number-of e) n
+refused-with (Some e) n = eqb (rule-number e) n
 
 -- the sets {1}, {2}, {3}, {1, 2} and {2, 3} as masks
 abbrev one : ℕ

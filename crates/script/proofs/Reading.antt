@@ -7,9 +7,9 @@ use lib.ListN.{length}
 use Rattle.std.specs.Results.{Cases, ErrBy}
 use Rattle.std.specs.declared.result.Result.{Result}
 use Rattle.std.specs.declared.result.Result.the-variants.{Ok, Err}
-use Rattle.script.specs.declared.refusal.Fault.{Fault}
-use Rattle.script.specs.declared.refusal.Fault.the-variants.{Refused, Memory}
-use Rattle.script.specs.declared.refusal.Refusal.{Refusal}
+use Rattle.script.specs.declared.fault.Fault.{Fault}
+use Rattle.script.specs.declared.fault.Fault.the-variants.{Refused, Memory}
+use Rattle.refusal.specs.declared.script.Refusal.{Refusal}
 use Rattle.fields.specs.Fields.{split, line-feed, Cut}
 use Rattle.script.specs.Refusals.{Refuses, and-then}
 use Rattle.script.specs.Sheets.{Sheet, line-read, lines-read}

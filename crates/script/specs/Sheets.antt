@@ -16,11 +16,12 @@ use Rattle.script.specs.declared.draft.Draft.{Draft}
 use Rattle.script.specs.declared.draft.Seats.{Seats}
 use Rattle.script.specs.declared.line.Entry.{Entry}
 use Rattle.script.specs.declared.line.Entry.the-variants as entry
-use Rattle.script.specs.declared.refusal.Cause.the-variants.{Malformed, Misplaced, TooLong}
-use Rattle.script.specs.declared.refusal.Refusal.{Refusal}
+use Rattle.refusal.specs.declared.script.Cause.the-variants.{Malformed, Misplaced, TooLong}
+use Rattle.refusal.specs.declared.script.Refusal.{Refusal}
 use Rattle.fields.specs.Fields.{split, blank, line-feed}
 use Rattle.script.specs.Lines.{entry-of}
-use Rattle.script.specs.Refusals.{at-line, and-then}
+use Rattle.refusal.specs.Numbers.{at-line}
+use Rattle.script.specs.Refusals.{and-then}
 
 -- what the lines so far have given: the number of processes, the pairs with the line of each, the counts
 pub record Sheet : Type 0 where

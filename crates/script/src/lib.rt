@@ -1,7 +1,7 @@
 // Reading a script: its lines, what they give, and why it is refused.
 mod draft;
+mod fault;
 mod line;
-mod refusal;
 
 pub use draft::Counts;
 pub use draft::Draft;
@@ -9,10 +9,7 @@ pub use draft::MAX_BYTES;
 pub use draft::Seats;
 pub use line::Entry;
 pub use line::Line;
-pub use refusal::Cause;
-pub use refusal::Fault;
-pub use refusal::FaultFromAlloc;
-pub use refusal::FaultFromFull;
-pub use refusal::FaultFromRefusal;
-pub use refusal::Layer;
-pub use refusal::Refusal;
+pub use fault::Fault;
+pub use fault::FaultFromAlloc;
+pub use fault::FaultFromFull;
+pub use fault::FaultFromRefusal;

@@ -1,14 +1,7 @@
 // Why a rule is refused.
 ghost use mathlib.Core.Path.{_≡_};
-ghost use Rattle.adversary.specs.Refusals.{number-of, place-of};
-
-// Where a refusal points: nowhere, at one entry of a list, or at three, all counted from 1.
-#[derive(Clone, Copy)]
-pub enum Place {
-    Nowhere,
-    At(u16),
-    Three(u16, u16, u16),
-}
+ghost use Rattle.refusal.specs.Numbers.{rule-number, rule-place};
+use crate::place::Place;
 
 #[derive(Clone, Copy)]
 pub enum RuleRefusal {
@@ -31,7 +24,7 @@ pub enum RuleRefusal {
 impl RuleRefusal {
     // The printed number.
     pub fn number(self) -> u8
-        ensures { λ r. ⌜ r ≡ number-of self ⌝ }
+        ensures { λ r. ⌜ r ≡ rule-number self ⌝ }
     {
         match self {
             RuleRefusal::Processes => 1,
@@ -46,7 +39,7 @@ impl RuleRefusal {
 
     // The listed pair, or the three listed pairs, to blame.
     pub fn place(self) -> Place
-        ensures { λ r. ⌜ r ≡ place-of self ⌝ }
+        ensures { λ r. ⌜ r ≡ rule-place self ⌝ }
     {
         match self {
             RuleRefusal::AboveProcesses(pair) | RuleRefusal::InBothSets(pair) => Place::At(pair),
