@@ -9,10 +9,11 @@ use lib.Count.{ones}
 use lib.Dec.{leb, ltb}
 use Rattle.std.proofs.shelf.Tests.{cases-bool, and-parts, and-from, or-cases, or-left, or-right, leb-true, le-leb, leb-false, true≢false}
 use Rattle.sets.specs.Pairs.{contained, covers, cover-of}
-use Rattle.sets.specs.Sets.{has, full, subset, Subset}
+use Rattle.sets.specs.Meaning.{Covered, by-first, by-second, by-third, by-all, Subset}
+use Rattle.sets.specs.Sets.{has, full, subset}
 use Rattle.sets.proofs.Masks.{has-or, has-and, subset-members, members-subset}
 use Rattle.sets.proofs.Counting.{ones-or, ones-subset, ones-full}
-use Rattle.sets.proofs.Covering.{contained-members, Covered, by-first, by-second, by-third, by-all, in-covered}
+use Rattle.sets.proofs.Covering.{contained-members, in-covered}
 use Rattle.adversary.specs.Laws.{Sized, Lawful}
 use Rattle.std.specs.declared.option.Option.the-variants.{None}
 use Rattle.refusal.specs.declared.rule.RuleRefusal.the-variants.{ByzantineAboveTotal, TotalTooHigh}

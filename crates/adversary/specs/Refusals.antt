@@ -115,6 +115,15 @@ pub record Blamed (n : ℕ) (ps : List FaultPair) (i j k : ℕ) : Type 0 where
 abbrev pub Coverless : ℕ → List FaultPair → Type 0
 Coverless n ps = (i j k : ℕ) → i < length ps → j < length ps → k < length ps → covers-at n ps i j k ≡ false
 
+-- what the answer of adopting n and these pairs says, where `o` is the refusal, if there is one
+pub record Judged (o : Option RuleRefusal) (n : ℕ) (ps : List FaultPair) : Type 0 where
+  -- it is refused with just this
+  pub answer : o ≡ list-refusal n ps
+  -- 5 names the first three pairs that cover the crew
+  pub blame : (i j k : ℕ) → o ≡ Some (Cover i j k) → Blamed n ps i j k
+  -- where it is not refused, no three pairs cover the crew
+  pub coverless : o ≡ None → Coverless n ps
+
 -- whether they can be adopted
 abbrev pub adoptable : ℕ → List FaultPair → Bool
 adoptable n ps = not (isSome (list-refusal n ps))

@@ -6,11 +6,9 @@ ghost use Prim.Native.Nat.{ℕ, _-_, _<_, _≤_};
 ghost use lib.ListN.{length, take};
 ghost use Rattle.std.specs.Options.{Cases as BySome};
 ghost use Rattle.std.specs.Results.{Cases, errPart};
-ghost use Rattle.std.specs.declared.option.Option.the-variants.{Some, None};
-ghost use Rattle.refusal.specs.declared.rule.RuleRefusal.the-variants.{Cover};
 ghost use Rattle.sets.specs.Pairs.{byz, fail, pair-of};
 ghost use Rattle.sets.specs.Sets.{limit};
-ghost use Rattle.adversary.specs.Refusals.{answered, size-refusal, pair-refusal, pairs-refusal, third-from, second-from, least-cover, list-refusal, most-pairs, Blamed, Coverless};
+ghost use Rattle.adversary.specs.Refusals.{answered, size-refusal, pair-refusal, pairs-refusal, third-from, second-from, least-cover, list-refusal, most-pairs, Judged};
 ghost use Rattle.adversary.specs.Rules.{listed};
 ghost use Rattle.adversary.specs.Lists.{Has, pairs-of};
 use crate::pair_list::MAX_PAIRS;
@@ -102,6 +100,14 @@ fn first_cover(count: u8, pairs: &[FaultPair]) -> Option<(usize, usize, usize)>
     None
 }
 
+// The number of processes where every test is passed.
+fn judge_list(processes: u16, pairs: &[FaultPair]) -> Result<u8, RuleRefusal>
+    ensures value { λ r. ⌜ r ≡ answered processes (list-refusal processes (now (pairs .entry))) ⌝ }
+    ensures answer { λ r. ⌜ Judged (errPart r) processes (now (pairs .entry)) ⌝ }
+{
+    check_list(processes, pairs)
+}
+
 // Every test of a list in its order; the number of processes where all are passed.
 fn check_list(processes: u16, pairs: &[FaultPair]) -> Result<u8, RuleRefusal>
     ensures { λ r. ⌜ r ≡ answered processes (list-refusal processes (now (pairs .entry))) ⌝ }
@@ -153,12 +159,10 @@ impl PairList {
 
     // Replaces the whole list, or is refused and leaves it as it was.
     pub fn adopt(&mut self, processes: u16, pairs: &[FaultPair]) -> Result<(), RuleRefusal>
-        ensures answer { λ r. ⌜ errPart r ≡ list-refusal processes (now (pairs .entry)) ⌝ }
-        ensures blame { λ r. ⌜ ((i j k : ℕ) → errPart r ≡ Some (Cover i j k) → Blamed processes (now (pairs .entry)) i j k) ⌝ }
-        ensures coverless { λ r. ⌜ (errPart r ≡ None → Coverless processes (now (pairs .entry))) ⌝ }
+        ensures answer { λ r. ⌜ Judged (errPart r) processes (now (pairs .entry)) ⌝ }
         ensures after { λ r. ⌜ Cases r (λ _. Has (now (self .exit)) processes (now (pairs .entry))) (λ _. now (self .exit) ≡ now (self .entry)) ⌝ }
     {
-        let count = check_list(processes, pairs)?;
+        let count = judge_list(processes, pairs)?;
         *self = PairList {
             processes: count,
             len: pairs.len(),

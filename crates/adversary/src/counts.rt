@@ -2,6 +2,7 @@
 ghost use mathlib.Core.Path.{_≡_};
 ghost use Rattle.std.specs.Results.{errPart};
 ghost use Rattle.std.specs.Vec.{made};
+ghost use Rattle.sets.specs.Sets.{full, set-of};
 ghost use Rattle.adversary.specs.Counts.{Counts};
 ghost use Rattle.adversary.specs.Refusals.{threshold-refusal};
 ghost use Rattle.adversary.specs.Rules.{within};
@@ -31,6 +32,13 @@ impl Threshold {
             byzantine: byzantine as u8,
         })
     }
+
+    // All processes.
+    fn crew(&self) -> ProcessSet
+        ensures { λ r. ⌜ r ≡ set-of (full (now (self .entry) .processes)) ⌝ }
+    {
+        ProcessSet::first(self.processes)
+    }
 }
 
 pub impl AdversaryStructure for Threshold as ThresholdStructure {
@@ -44,7 +52,7 @@ pub impl AdversaryStructure for Threshold as ThresholdStructure {
 
     fn holds(&self, pair: FaultPair) -> bool {
         let faulty = pair.byzantine.union(pair.failing);
-        let inside = faulty.is_subset(ProcessSet::first(self.processes));
+        let inside = faulty.is_subset(self.crew());
         let few_byzantine = pair.byzantine.len() <= u32::from(self.byzantine);
         let few = faulty.len() <= u32::from(self.total);
         inside & (few_byzantine & few)

@@ -18,12 +18,20 @@ const COMMA: u8 = b',';
 
 const MAX_DIGITS: usize = 3;
 
+// Whether two fields are the same.
+fn same_field(a: &[u8], b: &[u8]) -> bool
+    ensures value { λ r. ⌜ r ≡ sameBytes (now (a .entry)) (now (b .entry)) ⌝ }
+    ensures same { λ r. ⌜ (r ≡ true → now (a .entry) ≡ now (b .entry)) ⌝ }
+{
+    a == b
+}
+
 // Whether a field is this text.
-pub fn is_text(field: &[u8], text: &[u8]) -> bool
+pub fn is_text(field: &[u8], text: &str) -> bool
     ensures value { λ r. ⌜ r ≡ sameBytes (now (field .entry)) (now (text .entry)) ⌝ }
     ensures same { λ r. ⌜ (r ≡ true → now (field .entry) ≡ now (text .entry)) ⌝ }
 {
-    field == text
+    same_field(field, text.as_bytes())
 }
 
 // How many bytes stand before the first `stop`.
@@ -39,14 +47,19 @@ fn run_length(text: &[u8], stop: u8) -> usize
     text.len()
 }
 
+// Where the first `stop` stands.
+fn position(text: &[u8], stop: u8) -> Option<usize>
+    ensures { λ r. ⌜ Cases r (split stop (now (text .entry)) ≡ now (text .entry) ∷ []) (λ n. (n < length (now (text .entry))) × Cut stop (now (text .entry)) (take n (now (text .entry))) (drop (n + 1) (now (text .entry)))) ⌝ }
+{
+    let n = run_length(text, stop);
+    if n == text.len() { None } else { Some(n) }
+}
+
 // The piece before the first `stop` and what follows that byte; nothing where the text has none.
 pub fn split_once(text: &[u8], stop: u8) -> Option<(&[u8], &[u8])>
     ensures { λ r. ⌜ Cases r (split stop (now (text .entry)) ≡ now (text .entry) ∷ []) (λ p. Cut stop (now (text .entry)) (now (p .0)) (now (p .1))) ⌝ }
 {
-    let n = run_length(text, stop);
-    if n == text.len() {
-        return None;
-    }
+    let n = position(text, stop)?;
     Some((&text[0..n], &text[n + 1..]))
 }
 
@@ -95,7 +108,7 @@ fn joined_set(field: &[u8]) -> Option<ProcessSet>
 pub fn process_set(field: &[u8]) -> Option<ProcessSet>
     ensures { λ r. ⌜ r ≡ set-in (now (field .entry)) ⌝ }
 {
-    if is_text(field, b"-") {
+    if is_text(field, "-") {
         return Some(ProcessSet::EMPTY);
     }
     joined_set(field)

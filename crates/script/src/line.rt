@@ -65,13 +65,13 @@ impl<'a> Line<'a> {
         ensures { λ r. ⌜ Cases r (entry-of (split blank (now (text .entry))) ≡ None) (λ l. (fields-of l ≡ split blank (now (text .entry))) × (line-of l ≡ line)) ⌝ }
     {
         let (word, fields) = split_once(text, BLANK)?;
-        if is_text(word, b"seats") {
+        if is_text(word, "seats") {
             return Line::seats(fields, line);
         }
-        if is_text(word, b"pair") {
+        if is_text(word, "pair") {
             return Line::pair(fields, line);
         }
-        if is_text(word, b"count") {
+        if is_text(word, "count") {
             return Line::count(fields, line);
         }
         None

@@ -5,14 +5,10 @@ use mathlib.Core.Logic.{⊎-elim}
 use Prim.Native.Nat.{ℕ, _<_}
 use lib.Bits.{bitAnd, bitOr}
 use Rattle.std.proofs.shelf.Tests.{and-parts, and-from, or-cases, or-left, or-right, ltb-true, lt-ltb}
+use Rattle.sets.specs.Meaning.{Contained, Covered, by-first, by-second, by-third, by-all}
 use Rattle.sets.specs.Pairs.{contained, cover-of, covers}
-use Rattle.sets.specs.Sets.{has, full, Subset}
+use Rattle.sets.specs.Sets.{has, full}
 use Rattle.sets.proofs.Masks.{has-and, has-or, has-full, subset-members, members-subset}
-
--- a′ ⊆ a, and f′ ⊆ a ∪ f
-pub record Contained (a′ f′ a f : ℕ) : Type 0 where
-  pub byzantine : (s : ℕ) → has a′ s ≡ true → has a s ≡ true
-  pub failing : (s : ℕ) → has f′ s ≡ true → (has a s || has f s) ≡ true
 
 pub contained-members : (a′ f′ a f : ℕ) → contained a′ f′ a f ≡ true → Contained a′ f′ a f
 contained-members a′ f′ a f t =
@@ -21,13 +17,6 @@ contained-members a′ f′ a f t =
 
 pub members-contained : (a′ f′ a f : ℕ) → Contained a′ f′ a f → contained a′ f′ a f ≡ true
 members-contained a′ f′ a f c = and-from _ _ (members-subset a′ a (c .byzantine)) (members-subset f′ (bitOr a f) (λ s h. has-or a f s ∙ c .failing s h))
-
--- the four ways in which three pairs cover a process
-pub data Covered (a₁ f₁ a₂ f₂ a₃ f₃ s : ℕ) : Type 0 where
-  by-first : has a₁ s ≡ true → Covered a₁ f₁ a₂ f₂ a₃ f₃ s
-  by-second : has a₂ s ≡ true → Covered a₁ f₁ a₂ f₂ a₃ f₃ s
-  by-third : has a₃ s ≡ true → Covered a₁ f₁ a₂ f₂ a₃ f₃ s
-  by-all : has f₁ s ≡ true → has f₂ s ≡ true → has f₃ s ≡ true → Covered a₁ f₁ a₂ f₂ a₃ f₃ s
 
 module _ (a₁ f₁ a₂ f₂ a₃ f₃ : ℕ) where
   has-covered : (s : ℕ) → has (cover-of a₁ f₁ a₂ f₂ a₃ f₃) s ≡ (((has a₁ s || has a₂ s) || has a₃ s) || ((has f₁ s && has f₂ s) && has f₃ s))

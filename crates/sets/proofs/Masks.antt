@@ -11,7 +11,8 @@ use Rattle.std.specs.Orderings.{Decides}
 use Rattle.std.proofs.shelf.Bits.{shr-shr, mod-mul-add, pow-pos}
 use Rattle.std.proofs.shelf.Tests.{cases-bool, eq-eqb, eqb-true, and-parts, and-from}
 use Rattle.std.proofs.shelf.Ways.{tells}
-use Rattle.sets.specs.Sets.{has, full, subset, Subset}
+use Rattle.sets.specs.Meaning.{Subset}
+use Rattle.sets.specs.Sets.{has, full, subset}
 
 -- what holds of 0 and 0, and of two numbers if it holds of their halves, holds of any two
 pub by-halves : (P : ℕ → ℕ → Type 0) → P 0 0 → ((a b : ℕ) → P (a / 2) (b / 2) → P a b) → (a b : ℕ) → P a b

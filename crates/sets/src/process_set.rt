@@ -1,12 +1,11 @@
 // A set of processes as a bit mask: process p, counted from 1, is worth 2^(p - 1).
 ghost use mathlib.Core.Path.{_≡_};
-ghost use mathlib.Core.Bool.{_||_, _&&_};
-ghost use Prim.Native.Nat.{ℕ, _-_, _^_, _<_, min};
+ghost use mathlib.Core.Bool.{_&&_};
+ghost use Prim.Native.Nat.{_-_, _<_, _≤_, min};
 ghost use lib.Bits.{bitAnd, bitOr};
 ghost use lib.Count.{ones};
-ghost use lib.Dec.{eqb, ltb};
-ghost use Rattle.std.specs.Orderings.{Decides};
-ghost use Rattle.sets.specs.Sets.{limit, has, full, subset, Subset, numbered, single, set-of};
+ghost use Rattle.sets.specs.Meaning.{Masks-are-sets};
+ghost use Rattle.sets.specs.Sets.{limit, has, full, subset, numbered, single, set-of};
 
 // The greatest number of processes in a crew: the one place in the code that fixes it.
 pub const MAX_PROCESSES: u8 = 16;
@@ -27,9 +26,8 @@ impl ProcessSet {
     pub fn first(count: u8) -> ProcessSet
         ensures { λ r. ⌜ r ≡ set-of (full (min count limit)) ⌝ }
     {
-        let count = count.min(MAX_PROCESSES);
         ProcessSet {
-            bits: ((1u32 << count) - 1) as Mask,
+            bits: low_bits(count.min(MAX_PROCESSES)),
         }
     }
 
@@ -63,14 +61,12 @@ impl ProcessSet {
     pub fn contains(self, number: u8) -> bool
         ensures { λ r. ⌜ r ≡ (numbered number && has (self .bits) (number - 1)) ⌝ }
     {
-        1 <= number && number <= MAX_PROCESSES && (self.bits >> (number - 1)) % 2 == 1
+        1 <= number && number <= MAX_PROCESSES && has_bit(self.bits, number - 1)
     }
 
     // The processes of either set.
     pub fn union(self, other: ProcessSet) -> ProcessSet
-        ensures value { λ r. ⌜ r ≡ set-of (bitOr (self .bits) (other .bits)) ⌝ }
-        ensures members { λ r. ⌜ ((s : ℕ) → has (r .bits) s ≡ (has (self .bits) s || has (other .bits) s)) ⌝ }
-        ensures short { λ r. ⌜ r .bits < 2 ^ limit ⌝ }
+        ensures { λ r. ⌜ r ≡ set-of (bitOr (self .bits) (other .bits)) ⌝ }
     {
         ProcessSet {
             bits: self.bits | other.bits,
@@ -79,8 +75,7 @@ impl ProcessSet {
 
     // The processes of both sets.
     pub fn intersection(self, other: ProcessSet) -> ProcessSet
-        ensures value { λ r. ⌜ r ≡ set-of (bitAnd (self .bits) (other .bits)) ⌝ }
-        ensures members { λ r. ⌜ ((s : ℕ) → has (r .bits) s ≡ (has (self .bits) s && has (other .bits) s)) ⌝ }
+        ensures { λ r. ⌜ r ≡ set-of (bitAnd (self .bits) (other .bits)) ⌝ }
     {
         ProcessSet {
             bits: self.bits & other.bits,
@@ -89,8 +84,7 @@ impl ProcessSet {
 
     // Whether every process of this set is in the other.
     pub fn is_subset(self, other: ProcessSet) -> bool
-        ensures value { λ r. ⌜ r ≡ subset (self .bits) (other .bits) ⌝ }
-        ensures members { λ r. ⌜ Decides r (Subset (self .bits) (other .bits)) ⌝ }
+        ensures { λ r. ⌜ r ≡ subset (self .bits) (other .bits) ⌝ }
     {
         self.bits & other.bits == self.bits
     }
@@ -101,4 +95,27 @@ impl ProcessSet {
     {
         self.bits.count_ones()
     }
+}
+
+// The mask whose lowest `count` bits are one.
+fn low_bits(count: u8) -> Mask
+    requires { ⌜ count ≤ limit ⌝ }
+    ensures { λ r. ⌜ r ≡ full count ⌝ }
+{
+    ((1u32 << count) - 1) as Mask
+}
+
+// Whether the bit at a position is one.
+fn has_bit(bits: Mask, position: u8) -> bool
+    requires { ⌜ position < limit ⌝ }
+    ensures { λ r. ⌜ r ≡ has bits position ⌝ }
+{
+    (bits >> position) % 2 == 1
+}
+
+// That masks are sets: what each operation on masks means, process by process, at any width.
+pub fn masks_are_sets() -> bool
+    ensures { λ _. ⌜ Masks-are-sets ⌝ }
+{
+    true
 }

@@ -14,7 +14,7 @@ returns-then-b-lt48 c =
     let bs = c .args .field .now in
     let i = c .loop-b .b-index in
     let ne = eqb-false (length bs) 0 (sym (c .if-is-empty .ensures tt)) in
-    let short = number-short bs (omega arith) (c .if-field-gt-MAX-DIGITS .left) in
+    let short = number-short bs (omega arith) (omega (arith, c .if-field-gt-MAX-DIGITS .left)) in
     let bad : digits-from n (drop i bs) ≡ _ =
     elim (c .then-b-lt48 .came) [
       | then-b-lt48·by·then-b-lt48 w ↦ digits-low n bs i (c .loop-b-test .taken) (w .if-b-lt48 .taken)
@@ -39,5 +39,5 @@ returns c =
     let bs = c .args .field .now in
     let i = c .loop-b .b-index in
     let ne = eqb-false (length bs) 0 (sym (c .if-is-empty .ensures tt)) in
-    let short = number-short bs (omega arith) (c .if-field-gt-MAX-DIGITS .left) in
+    let short = number-short bs (omega arith) (omega (arith, c .if-field-gt-MAX-DIGITS .left)) in
     record { value = sym (digits-end n bs i (c .loop-b-test .left)) ∙ c .loop-b .inv .1 ∙ sym short; small = ten-few i n (omega arith) (c .loop-b .inv .0) }

@@ -11,4 +11,4 @@ returns-else-count-le-MAX-PROCESSES c =
     let n = c .args .count in
     let long = c .if-count-le-MAX-PROCESSES .left in
     let m = c .covered-covered .result .bits in
-    lt-leb n 16 long ∙ sym (full-too-long 16 n m (c .covered-covered .ensures .short) long) ∙ ap (subset (full n)) (c .covered-covered .ensures .value)
+    lt-leb n 16 long ∙ sym (full-too-long 16 n m (omega arith) long) ∙ ap (subset (full n)) (c .covered-covered .ensures)

@@ -1,8 +1,0 @@
-use Rattle.std.proofs.shelf.Equals.{matches-decides, sameBytes-decides}
-use Rattle.std.proofs.shelf.Ways.{same-from-decides}
-use Rattle.fields.proofs.is_text.Needs as need
-
-pub returns : need.returns
-returns c =
-    let told = matches-decides (c .args .field .now) (c .args .text .now) (c .eq .result) (c .eq .ensures) in
-    record { value = same-from-decides (c .eq .result) _ told (sameBytes-decides (c .args .field .now) (c .args .text .now)); same = told .0 }
