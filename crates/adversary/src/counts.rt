@@ -7,9 +7,9 @@ ghost use Rattle.adversary.specs.Counts.{Counts};
 ghost use Rattle.adversary.specs.Refusals.{threshold-refusal};
 ghost use Rattle.adversary.specs.Rules.{within};
 use crate::adopt::process_count;
-use refusal::RuleRefusal;
 use crate::structure::AdversaryStructure;
 use crate::threshold::Threshold;
+use refusal::RuleRefusal;
 use sets::FaultPair;
 use sets::ProcessSet;
 

@@ -55,12 +55,21 @@ fn position(text: &[u8], stop: u8) -> Option<usize>
     if n == text.len() { None } else { Some(n) }
 }
 
+// The two parts of a text beside the byte at `n`.
+fn parts_beside(text: &[u8], stop: u8, n: usize) -> (&[u8], &[u8])
+    requires within { ⌜ n < length (now text) ⌝ }
+    requires cuts { ⌜ Cut stop (now text) (take n (now text)) (drop (n + 1) (now text)) ⌝ }
+    ensures { λ r. ⌜ Cut stop (now (text .entry)) (now (r .0)) (now (r .1)) ⌝ }
+{
+    (&text[0..n], &text[n + 1..])
+}
+
 // The piece before the first `stop` and what follows that byte; nothing where the text has none.
 pub fn split_once(text: &[u8], stop: u8) -> Option<(&[u8], &[u8])>
     ensures { λ r. ⌜ Cases r (split stop (now (text .entry)) ≡ now (text .entry) ∷ []) (λ p. Cut stop (now (text .entry)) (now (p .0)) (now (p .1))) ⌝ }
 {
     let n = position(text, stop)?;
-    Some((&text[0..n], &text[n + 1..]))
+    Some(parts_beside(text, stop, n))
 }
 
 // A number of one to three digits.

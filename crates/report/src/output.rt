@@ -6,20 +6,30 @@ ghost use Rattle.std.specs.Vec.{made};
 ghost use Rattle.std.specs.declared.result.Result.the-variants.{Ok, Err};
 ghost use Rattle.agreement.specs.Rounds.{rounds-of};
 ghost use Rattle.script.specs.Refusals.{Refuses};
+ghost use Rattle.report.specs.Protection.{Protected};
 ghost use Rattle.report.specs.Reports.{crew-text, place-text, refused-text, refusal-text, report-of};
 ghost use Rattle.report.specs.Verdicts.{judgement};
 use crate::verdict::Crew;
 use crate::verdict::judge_draft;
 use refusal::Place;
+use refusal::Refusal;
 use script::Draft;
 use script::Fault;
 use script::FaultFromRefusal;
-use refusal::Refusal;
 use std::alloc::AllocError;
 use std::alloc::Global;
 
-// The crew of an accepted script.
+// The crew of an accepted script: it is protected under the script's rule.
 pub fn judge(heap: Global, script: &[u8]) -> Result<Crew, Fault>
+    ensures verdict { λ r. ⌜ Cases r (λ c. judgement (now (script .entry)) ≡ Ok (c .processes)) (λ f. Refuses f (λ e. judgement (now (script .entry)) ≡ Err e)) ⌝ }
+    ensures rounds { λ r. ⌜ made r (λ c. c .rounds ≡ rounds-of (c .processes)) ⌝ }
+    ensures protected { λ r. ⌜ made r (λ c. Protected (now (script .entry)) (c .processes)) ⌝ }
+{
+    judge_script(heap, script)
+}
+
+// The crew of an accepted script.
+fn judge_script(heap: Global, script: &[u8]) -> Result<Crew, Fault>
     ensures verdict { λ r. ⌜ Cases r (λ c. judgement (now (script .entry)) ≡ Ok (c .processes)) (λ f. Refuses f (λ e. judgement (now (script .entry)) ≡ Err e)) ⌝ }
     ensures rounds { λ r. ⌜ made r (λ c. c .rounds ≡ rounds-of (c .processes)) ⌝ }
 {

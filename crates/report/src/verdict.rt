@@ -20,16 +20,16 @@ use adversary::Intersection;
 use adversary::IntersectionStructure;
 use adversary::PairList;
 use adversary::PairListStructure;
-use refusal::RuleRefusal;
 use adversary::Threshold;
 use adversary::ThresholdStructure;
 use agreement::rounds;
 use refusal::Cause;
+use refusal::Refusal;
+use refusal::RuleRefusal;
 use script::Counts;
 use script::Draft;
 use script::Fault;
 use script::FaultFromRefusal;
-use refusal::Refusal;
 use script::Seats;
 
 // The line that a rule's refusal gets.

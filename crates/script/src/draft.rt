@@ -8,14 +8,14 @@ ghost use Rattle.fields.specs.Fields.{split, blank, line-feed};
 ghost use Rattle.script.specs.Lines.{fields-of, line-of};
 ghost use Rattle.script.specs.Refusals.{Refuses};
 ghost use Rattle.script.specs.Sheets.{sheet-of, empty-sheet, misplaced, entered, fields-read, line-read, lines-read, script-read, most-bytes};
-use crate::line::Entry;
-use crate::line::Line;
-use refusal::Cause;
 use crate::fault::Fault;
 use crate::fault::FaultFromFull;
-use refusal::Refusal;
+use crate::line::Entry;
+use crate::line::Line;
 use fields::LINE_FEED;
 use fields::split_once;
+use refusal::Cause;
+use refusal::Refusal;
 use sets::FaultPair;
 use std::alloc::Global;
 

@@ -54,7 +54,8 @@ impl ProcessSet {
     pub fn bits(self) -> Mask
         ensures { λ r. ⌜ set-of r ≡ self ⌝ }
     {
-        self.bits
+        let ProcessSet { bits } = self;
+        bits
     }
 
     // Whether process `number` is in the set.

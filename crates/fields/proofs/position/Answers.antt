@@ -19,9 +19,11 @@ returns-else-n-text c =
     let short : run stop bs < length bs = omega (arith, c .run-length-n .ensures .within, c .if-n-text .left) in
     let front : run stop bs ≡ n = omega arith in
     let back : suc (run stop bs) ≡ n + 1 = omega arith in
-    let pieces = split-at stop bs short in
-    (omega arith, record {
-      pieces = pieces ∙ ap₂ (λ (x y : ℕ). take x bs ∷ split stop (drop y bs)) front back;
-      more = omega (arith, ap length pieces, split-some stop (drop (suc (run stop bs)) bs));
-      shorter = omega (arith, length-drop (n + 1) bs);
-    })
+    let pieces = split-at stop bs short in (
+      omega arith,
+      record {
+        pieces = pieces ∙ ap₂ (λ (x y : ℕ). take x bs ∷ split stop (drop y bs)) front back;
+        more = omega (arith, ap length pieces, split-some stop (drop (suc (run stop bs)) bs));
+        shorter = omega (arith, length-drop (n + 1) bs);
+      },
+    )
