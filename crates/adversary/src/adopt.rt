@@ -38,7 +38,7 @@ fn check_pair(count: u8, place: u16, pair: FaultPair) -> Result<(), RuleRefusal>
     if !pair.byzantine.union(pair.failing).is_subset(crew) {
         return Err(RuleRefusal::AboveProcesses(place));
     }
-    if pair.byzantine.intersection(pair.failing).bits() != 0 {
+    if !pair.byzantine.intersection(pair.failing).is_empty() {
         return Err(RuleRefusal::InBothSets(place));
     }
     Ok(())

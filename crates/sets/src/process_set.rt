@@ -4,6 +4,7 @@ ghost use mathlib.Core.Bool.{_&&_};
 ghost use Prim.Native.Nat.{_-_, _<_, _≤_, min};
 ghost use lib.Bits.{bitAnd, bitOr};
 ghost use lib.Count.{ones};
+ghost use lib.Dec.{eqb};
 ghost use Rattle.sets.specs.Meaning.{Masks-are-sets};
 ghost use Rattle.sets.specs.Sets.{limit, has, full, subset, numbered, single, set-of};
 
@@ -56,6 +57,13 @@ impl ProcessSet {
     {
         let ProcessSet { bits } = self;
         bits
+    }
+
+    // Whether no process is in the set.
+    pub fn is_empty(self) -> bool
+        ensures { λ r. ⌜ r ≡ eqb (self .bits) 0 ⌝ }
+    {
+        self.bits == ProcessSet::EMPTY.bits
     }
 
     // Whether process `number` is in the set.
