@@ -123,8 +123,6 @@ fn has_bit(bits: Mask, position: u8) -> bool
 }
 
 // That masks are sets: what each operation on masks means, process by process, at any width.
-pub fn masks_are_sets() -> bool
+pub fn masks_are_sets()
     ensures { λ _. ⌜ Masks-are-sets ⌝ }
-{
-    true
-}
+{}
