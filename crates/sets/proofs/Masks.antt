@@ -1,6 +1,6 @@
 -- What is in a set, process by process, for masks of any width.
 use mathlib.Core.Path.{_≡_, refl, sym, ap, subst, _∙_}
-use mathlib.Core.Bool.{Bool, true, false, _&&_, _||_}
+use mathlib.Core.Bool.{Bool, true, false, cond, _&&_, _||_}
 use mathlib.Core.Logic.{⊎-elim}
 use Prim.Native.Nat.{ℕ, zero, suc, _+_, _-_, _*_, _/_, _%_, _^_, _≤_, _<_, min, max}
 use native.Mathlib.Omega.{arith}
@@ -12,7 +12,7 @@ use Rattle.std.proofs.shelf.Bits.{shr-shr, mod-mul-add, pow-pos}
 use Rattle.std.proofs.shelf.Tests.{cases-bool, eq-eqb, eqb-true, and-parts, and-from}
 use Rattle.std.proofs.shelf.Ways.{tells}
 use Rattle.sets.specs.Meaning.{Subset}
-use Rattle.sets.specs.Sets.{has, full, subset}
+use Rattle.sets.specs.Sets.{has, full, mask, subset}
 
 -- what holds of 0 and 0, and of two numbers if it holds of their halves, holds of any two
 pub by-halves : (P : ℕ → ℕ → Type 0) → P 0 0 → ((a b : ℕ) → P (a / 2) (b / 2) → P a b) → (a b : ℕ) → P a b
@@ -91,6 +91,17 @@ has-full (suc n) (suc s) =
     let q = pow-pos n in
     let half : (2 ^ suc n - 1) / 2 ≡ 2 ^ n - 1 = omega arith in
     has-suc (2 ^ suc n - 1) s ∙ ap (λ x. has x s) half ∙ has-full n s ∙ grind (arith, tells)
+
+-- those of the first n processes that pass a test
+pub has-mask : (n : ℕ) (test : ℕ → Bool) (s : ℕ) → has (mask n test) s ≡ (ltb s n && test s)
+unfolding mask
+has-mask zero test s = has-none s ∙ grind (arith, tells)
+has-mask (suc n) test zero =
+    let low : (cond (test 0) 1 0 + 2 * mask n (λ s. test (suc s))) % 2 ≡ cond (test 0) 1 0 = elim (test 0) as (λ b. (cond b 1 0 + 2 * mask n (λ s. test (suc s))) % 2 ≡ cond b 1 0) [ true ↦ omega arith | false ↦ omega arith ] in
+    has-zero _ ∙ ap (λ x. eqb x 1) low ∙ elim (test 0) as (λ b. eqb (cond b 1 0) 1 ≡ (ltb 0 (suc n) && b)) [ true ↦ grind (arith, tells) | false ↦ grind (arith, tells) ]
+has-mask (suc n) test (suc s) =
+    let half : (cond (test 0) 1 0 + 2 * mask n (λ s. test (suc s))) / 2 ≡ mask n (λ s. test (suc s)) = elim (test 0) as (λ b. (cond b 1 0 + 2 * mask n (λ s. test (suc s))) / 2 ≡ mask n (λ s. test (suc s))) [ true ↦ omega arith | false ↦ omega arith ] in
+    has-suc _ s ∙ ap (λ x. has x s) half ∙ has-mask n (λ s. test (suc s)) s ∙ grind (arith, tells)
 
 -- the test says what it should
 pub subset-members : (a b : ℕ) → subset a b ≡ true → Subset a b

@@ -7,7 +7,7 @@ use lib.Count.{ones}
 use lib.Dec.{ltb}
 use Rattle.std.specs.Orderings.{Decides}
 use Rattle.sets.specs.Pairs.{contained, covers}
-use Rattle.sets.specs.Sets.{has, full, subset}
+use Rattle.sets.specs.Sets.{has, full, mask, subset}
 
 -- every process of a is in b
 abbrev pub Subset : ℕ → ℕ → Type 0
@@ -32,6 +32,8 @@ pub record Masks-are-sets : Type 0 where
   pub intersection : (a b s : ℕ) → has (bitAnd a b) s ≡ (has a s && has b s)
   -- the first n processes are those at the positions below n
   pub first : (n s : ℕ) → has (full n) s ≡ ltb s n
+  -- a mask that is made by a test has the processes that pass it
+  pub passing : (n : ℕ) (test : ℕ → Bool) (s : ℕ) → has (mask n test) s ≡ (ltb s n && test s)
   -- two masks with the same processes are the same
   pub same : (a b : ℕ) → ((s : ℕ) → has a s ≡ has b s) → a ≡ b
   -- the tests tell what they should

@@ -2,7 +2,7 @@
 -- Processes are numbered from 1 and positions from 0, so process p stands at position p - 1 and is worth 2 ^ (p - 1).
 -- Nothing here has a width: the definitions hold for masks of any length.
 use mathlib.Core.Bool.{Bool, cond, _&&_}
-use Prim.Native.Nat.{ℕ, _-_, _/_, _%_, _^_}
+use Prim.Native.Nat.{ℕ, zero, suc, _+_, _-_, _*_, _/_, _%_, _^_}
 use lib.Bits.{bitAnd}
 use lib.Dec.{eqb, leb}
 use Rattle.std.specs.declared.option.Option.{Option}
@@ -20,6 +20,11 @@ has m s = eqb (m / 2 ^ s % 2) 1
 -- the set of the first n processes
 unfoldable pub full : ℕ → ℕ
 full n = 2 ^ n - 1
+
+-- the set of those of the first n processes that pass a test
+unfoldable pub mask : ℕ → (ℕ → Bool) → ℕ
+mask zero test = 0
+mask (suc n) test = cond (test 0) 1 0 + 2 * mask n (λ s. test (suc s))
 
 -- whether every process of a is in b: what a has in common with b is all of a
 abbrev pub subset : ℕ → ℕ → Bool

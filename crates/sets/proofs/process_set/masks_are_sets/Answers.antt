@@ -1,6 +1,6 @@
 use Rattle.sets.proofs.Counting.{ones-full, ones-or-and, ones-subset}
 use Rattle.sets.proofs.Covering.{contained-members, members-contained, covers-each, each-covers}
-use Rattle.sets.proofs.Masks.{has-or, has-and, has-full, same-sets, subset-decides}
+use Rattle.sets.proofs.Masks.{has-or, has-and, has-full, has-mask, same-sets, subset-decides}
 use Rattle.sets.proofs.process_set.masks_are_sets.Needs as need
 
 pub returns : need.returns
@@ -8,6 +8,7 @@ returns c = record {
   union = has-or;
   intersection = has-and;
   first = has-full;
+  passing = has-mask;
   same = same-sets;
   inside = subset-decides;
   containment = λ a′ f′ a f. (contained-members a′ f′ a f, members-contained a′ f′ a f);

@@ -1,0 +1,3 @@
+pub mod Protocols
+pub mod Schedules
+pub mod Claims
