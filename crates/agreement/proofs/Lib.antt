@@ -1,2 +1,10 @@
+pub mod Agreeing
+pub mod Bounds
+pub mod Counts
+pub mod Hearing
 pub mod Logs
+pub mod Pairs
+pub mod Phases
+pub mod Rows
 pub mod Tables
+pub mod Voting

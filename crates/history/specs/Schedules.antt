@@ -25,6 +25,12 @@ standing c r = not (has (c .byzantine) r) && eqb (c .last r) 0
 abbrev pub failing : ℕ → Schedule → ℕ
 failing n c = mask n (λ r. not (has (c .byzantine) r) && ltb 0 (c .last r))
 
+-- process p of n is correct through k rounds and has shut them
+pub record Through (n : ℕ) (h : History) (c : Schedule) (p k : ℕ) : Type 0 where
+  pub known : p < n
+  pub closed : k ≤ h .shut p
+  pub right : correct c p k ≡ true
+
 module _ {S : Type 0} (n : ℕ) (a : Protocol S) (h : History) (c : Schedule) where
   -- the message from r to p in the round after k is under the schedule:
   -- p has shut the round and is correct in it, and a word is due from r, another process

@@ -8,7 +8,7 @@ use Rattle.sets.specs.Sets.{limit}
 use Rattle.agreement.specs.Rounds.{clog, rounds-of}
 use Rattle.agreement.proofs.Logs.{clog-is, one-log}
 use Rattle.agreement.proofs.Tables.{entry}
-use Rattle.agreement.proofs.rounds.Needs as need
+use Rattle.agreement.proofs.table.rounds.Needs as need
 
 table : List ℕ
 table = 0 ∷ 0 ∷ 6 ∷ 18 ∷ 24 ∷ 45 ∷ 54 ∷ 63 ∷ 72 ∷ 108 ∷ 120 ∷ 132 ∷ 144 ∷ 156 ∷ 168 ∷ 180 ∷ 192 ∷ []
