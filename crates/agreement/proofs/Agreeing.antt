@@ -43,9 +43,9 @@ module _ (n : ℕ) (held : ℕ → ℕ → Bool) (h : History) (c : Schedule) (c
   abbrev V : ℕ → ℕ → ℕ
   V p k = value-after n held h c p k
 
-  bit-at-end : (i p : ℕ) → has (c .byzantine) p ≡ false → V p (3 * i) ≤ 1
+  bit-at-end : (i p : ℕ) → p < n → has (c .byzantine) p ≡ false → V p (3 * i) ≤ 1
   unfolding at
-  bit-at-end i p honest = subst (λ (q : Kind). Fine q (state (protocol n held) h p (3 * i))) (kind-one i) (fine n held h c (course .lawful) (course .kept) (course .bits) p (3 * i) honest)
+  bit-at-end i p known honest = subst (λ (q : Kind). Fine q (state (protocol n held) h p (3 * i))) (kind-one i) (fine n held h c (course .lawful) (course .kept) (course .bits) p (3 * i) known honest)
 
   persists : (i v : ℕ) → v ≤ 1 → Unanimous n held h c (3 * i) v → Unanimous n held h c (3 * i + 3) v
   unfolding at
@@ -169,7 +169,7 @@ module _ (n : ℕ) (held : ℕ → ℕ → Bool) (h : History) (c : Schedule) (c
       let u : Unanimous n held h c (3 * suc i) (V p (3 * suc i)) =
       λ r t. subst (λ (x : ℕ). (Through n h c r x → Through n h c p x → V r x ≡ V p x)) (sym e) (good-agrees i g r p) t (through-end p (3 * suc i) fp (omega (arith, all-rounds))) in
       let late : Unanimous n held h c (rounds-of n) (V p (3 * suc i)) =
-      subst (λ (x : ℕ). Unanimous n held h c x (V p (3 * suc i))) (ap (λ (x : ℕ). 3 * x) end ∙ all-rounds) (persists-on d (suc i) (V p (3 * suc i)) (bit-at-end (suc i) p honest) u) in
+      subst (λ (x : ℕ). Unanimous n held h c x (V p (3 * suc i))) (ap (λ (x : ℕ). 3 * x) end ∙ all-rounds) (persists-on d (suc i) (V p (3 * suc i)) (bit-at-end (suc i) p (fp .known) honest) u) in
       late p (through-end p (rounds-of n) fp (omega arith)) ∙ sym (late q (through-end q (rounds-of n) fq (omega arith)))
 
   agrees : (p q : ℕ) → Finished n held h c p → Finished n held h c q → V p (rounds-of n) ≡ V q (rounds-of n)
@@ -187,7 +187,7 @@ module _ (n : ℕ) (held : ℕ → ℕ → Bool) (h : History) (c : Schedule) (c
   unfolding at
   keeps-bit b shared p f =
       let honest = honest-of n held h c p 0 (through-end p 0 f (omega arith) .right) in
-      let few : b ≤ 1 = subst (λ (x : ℕ). x ≤ 1) (shared p (f .known) honest) (course .bits p honest) in
+      let few : b ≤ 1 = subst (λ (x : ℕ). x ≤ 1) (shared p (f .known) honest) (course .bits p (f .known) honest) in
       let u : Unanimous n held h c (3 * 0) b = λ r t. at-start n held h c r .0 ∙ shared r (t .known) (honest-of n held h c r 0 (t .right)) in
       let end : clog n * n + 0 ≡ clog n * n = omega arith in
       let late : Unanimous n held h c (rounds-of n) b = subst (λ (x : ℕ). Unanimous n held h c x b) (ap (λ (x : ℕ). 3 * x) end ∙ all-rounds) (persists-on (clog n * n) 0 b few u) in
@@ -209,11 +209,11 @@ pub faults-halve : Faults-halve
 faults-halve n held h c course s some none = halved n held h c course some s none
 
 pub phase-ends-in-a-bit : Phase-ends-in-a-bit
-phase-ends-in-a-bit n held h c course i p honest = bit-at-end n held h c course i p honest
+phase-ends-in-a-bit n held h c course i p known honest = bit-at-end n held h c course i p known honest
 
 pub courses-exist : Courses-exist
 unfolding protocol
 courses-exist n held start c lies lost lawful pair bits =
     let r = runs-exist State n (protocol n held) (rounds-of n) start c lies lost in
     let h = r .0 in
-    (h, record { lawful = lawful; kept = r .1 .kept; pair = pair; bits = λ q honest. subst (λ (x : ℕ). x ≤ 1) (sym (r .1 .begins q)) (bits q honest) }, r .1, λ p. ⊎-elim (λ e. e) (λ t. absurd (true≢false (sym (t .1)))) (r .1 .ends p))
+    (h, record { lawful = lawful; kept = r .1 .kept; pair = pair; bits = λ q known honest. subst (λ (x : ℕ). x ≤ 1) (sym (r .1 .begins q)) (bits q known honest) }, r .1, λ p. ⊎-elim (λ e. e) (λ t. absurd (true≢false (sym (t .1)))) (r .1 .ends p))

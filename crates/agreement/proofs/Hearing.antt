@@ -82,13 +82,13 @@ module _ (n : ℕ) (held : ℕ → ℕ → Bool) (h : History) (c : Schedule) wh
 
   -- every start bit of a process that is not Byzantine is a bit
   abbrev pub Bits : Type 0
-  Bits = (r : ℕ) → Honest r → h .start r ≤ 1
+  Bits = (r : ℕ) → r < n → Honest r → h .start r ≤ 1
 
   module _ (laws : Lawful n held) (kept : Keeps n (protocol n held) h c) (bits : Bits) where
     -- what a process that is not Byzantine may prefer
-    pub fine : (r k : ℕ) → Honest r → Fine (kind-of k) (at r k)
-    fine r zero e = subst (λ (x : ℕ). x ≤ 1) (sym (at-start r .0)) (bits r e)
-    fine r (suc k) e = subst (Fine (kind-of (suc k))) (sym (at-next r k)) (fine-next n held laws k (h .row r k) (at r k) (fine r k e))
+    pub fine : (r k : ℕ) → r < n → Honest r → Fine (kind-of k) (at r k)
+    fine r zero known e = subst (λ (x : ℕ). x ≤ 1) (sym (at-start r .0)) (bits r known e)
+    fine r (suc k) known e = subst (Fine (kind-of (suc k))) (sym (at-next r k)) (fine-next n held laws k (h .row r k) (at r k) (fine r k known e))
 
     abbrev pub Due : ℕ → ℕ → Type 0
     Due k r = due-by n held (kind-of k) k r ≡ true

@@ -124,7 +124,7 @@ module _ (n : ℕ) (held : ℕ → ℕ → Bool) (h : History) (c : Schedule) (l
 
     module _ (king-known : leader < n) (king-right : correct c leader (suc (suc (suc k))) ≡ true) (quiet-one : Quiet n held h c k) (quiet-two : Quiet n held h c (suc k)) where
       bit-said : (r : ℕ) → D r k → (V r k ≡ 1) ⊎ (V r k ≡ 0)
-      bit-said r d = small (V r k) refl (open-one .small r (honest-of n held h c r k (d .right)))
+      bit-said r d = small (V r k) refl (open-one .small r (d .known) (honest-of n held h c r k (d .right)))
         where
           small : (w : ℕ) → V r k ≡ w → V r k ≤ 1 → (V r k ≡ 1) ⊎ (V r k ≡ 0)
           small zero e l = inr e
@@ -164,7 +164,7 @@ module _ (n : ℕ) (held : ℕ → ℕ → Bool) (h : History) (c : Schedule) (l
 
         said-v-or-2 : (r : ℕ) → D r (suc k) → correct c r (suc (suc k)) ≡ true → (V r (suc k) ≡ 2) ⊎ (V r (suc k) ≡ v)
         said-v-or-2 r dr right =
-            ⊎-elim inr (λ ne. inl (let big = fine-most (at n held h c r (suc k)) (kind-of (suc k)) (fine n held h c laws kept bits r (suc k) (honest-of n held h c r (suc k) (dr .right))) in let no-w : V r (suc k) ≡ w → ⊥ = other-unsaid r dr in last-one (V r (suc k)) big ne no-w)) (cases-eq (V r (suc k)) v)
+            ⊎-elim inr (λ ne. inl (let big = fine-most (at n held h c r (suc k)) (kind-of (suc k)) (fine n held h c laws kept bits r (suc k) (dr .known) (honest-of n held h c r (suc k) (dr .right))) in let no-w : V r (suc k) ≡ w → ⊥ = other-unsaid r dr in last-one (V r (suc k)) big ne no-w)) (cases-eq (V r (suc k)) v)
           where
             last-one : (x : ℕ) → x ≤ 2 → (x ≡ v → ⊥) → (x ≡ w → ⊥) → x ≡ 2
             last-one x l a b = omega arith
@@ -186,7 +186,7 @@ module _ (n : ℕ) (held : ℕ → ℕ → Bool) (h : History) (c : Schedule) (l
       settled : (p : ℕ) → D p (suc (suc k)) → at n held h c p (suc (suc k)) .follows ≡ false → (V p (suc (suc k)) ≤ 1) × ((q : ℕ) → D q (suc (suc k)) → V q (suc (suc k)) ≡ V p (suc (suc k)))
       settled p d e =
           let honest = honest-of n held h c p (suc (suc k)) (d .right) in
-          let few = subst (λ (q : Kind). Fine q (at n held h c p (suc (suc k)))) three (fine n held h c laws kept bits p (suc (suc k)) honest) .1 e in
+          let few = subst (λ (q : Kind). Fine q (at n held h c p (suc (suc k)))) three (fine n held h c laws kept bits p (suc (suc k)) (d .known) honest) .1 e in
           let two-held = not-false (E p 2) (sym (follows-two p) ∙ e) in
           (few, by (V p (suc (suc k))) refl few two-held)
         where
@@ -214,7 +214,7 @@ module _ (n : ℕ) (held : ℕ → ℕ → Bool) (h : History) (c : Schedule) (l
       king-value p d e =
           let g = king-heard p d in
           let honest = honest-of n held h c leader (suc (suc (suc k))) king-right in
-          let small = fine-most (at n held h c leader (suc (suc k))) (kind-of (suc (suc k))) (fine n held h c laws kept bits leader (suc (suc k)) honest) in
+          let small = fine-most (at n held h c leader (suc (suc k))) (kind-of (suc (suc k))) (fine n held h c laws kept bits leader (suc (suc k)) king-known honest) in
           after-three p ∙ cond-true (at n held h c p (suc (suc k)) .follows) _ _ e ∙ ap (λ (o : Option ℕ). min 1 (or-zero o)) (ap (reading 2) (g .word) ∙ reading-word 2 (V leader (suc (suc k))) small)
 
       own-value : (p : ℕ) → at n held h c p (suc (suc k)) .follows ≡ false → V p (suc (suc (suc k))) ≡ V p (suc (suc k))

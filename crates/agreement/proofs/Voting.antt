@@ -24,7 +24,7 @@ module _ (n : ℕ) (held : ℕ → ℕ → Bool) (h : History) (c : Schedule) (l
   -- the round after k is one in which everybody speaks, and words up to `most` count
   pub record Open (k most : ℕ) : Type 0 where
     pub due : (r : ℕ) → Due n held h c laws kept bits k r
-    pub small : (r : ℕ) → Honest n held h c r → value-at n held h c r k ≤ most
+    pub small : (r : ℕ) → r < n → Honest n held h c r → value-at n held h c r k ≤ most
     pub catches : (p : ℕ) → detected-at n held h c p (suc k) ≡ caught n most (h .row p k) (detected-at n held h c p k)
 
   abbrev V : ℕ → ℕ → ℕ
@@ -36,14 +36,14 @@ module _ (n : ℕ) (held : ℕ → ℕ → Bool) (h : History) (c : Schedule) (l
   pub open-unify : (k : ℕ) → kind-of k ≡ unify → Open k 1
   open-unify k e = record {
     due = λ r. ap (λ (q : Kind). due-by n held q k r) e;
-    small = λ r honest. subst (λ (q : Kind). Fine q (at n held h c r k)) e (fine n held h c laws kept bits r k honest);
+    small = λ r known honest. subst (λ (q : Kind). Fine q (at n held h c r k)) e (fine n held h c laws kept bits r k known honest);
     catches = λ p. ap (λ (s : State). s .detected) (at-next n held h c p k ∙ step-is n held k unify (h .row p k) (at n held h c p k) e);
   }
 
   pub open-exchange : (k : ℕ) → kind-of k ≡ exchange → Open k 2
   open-exchange k e = record {
     due = λ r. ap (λ (q : Kind). due-by n held q k r) e;
-    small = λ r honest. subst (λ (q : Kind). Fine q (at n held h c r k)) e (fine n held h c laws kept bits r k honest);
+    small = λ r known honest. subst (λ (q : Kind). Fine q (at n held h c r k)) e (fine n held h c laws kept bits r k known honest);
     catches = λ p. ap (λ (s : State). s .detected) (at-next n held h c p k ∙ step-is n held k exchange (h .row p k) (at n held h c p k) e);
   }
 
@@ -59,7 +59,7 @@ module _ (n : ℕ) (held : ℕ → ℕ → Bool) (h : History) (c : Schedule) (l
         s .0,
         ⊎-elim inl
             (λ honest. ⊎-elim
-            (λ g. absurd (let w : reading most (h .row p k r) ≡ Some (V r k) = ap (reading most) (g .word) ∙ reading-word most (V r k) (o .small r honest) in let z : _≡_ {A = ℕ} 0 1 = cc (s .1) in omega arith))
+            (λ g. absurd (let w : reading most (h .row p k r) ≡ Some (V r k) = ap (reading most) (g .word) ∙ reading-word most (V r k) (o .small r (s .0) honest) in let z : _≡_ {A = ℕ} 0 1 = cc (s .1) in omega arith))
             (λ f. inr (f .1))
             (hears n held h c laws kept bits p k r d (s .0) (o .due r) honest))
             (cases-bool (has (c .byzantine) r)),
@@ -120,7 +120,7 @@ module _ (n : ℕ) (held : ℕ → ℕ → Bool) (h : History) (c : Schedule) (l
     counted p r d known right =
         let g = hears-correct n held h c laws kept bits p k r d known (o .due r) right in
         saying-in n most (h .row p k) (L p k) (V r k) r known
-        (ap (reading most) (g .word) ∙ reading-word most (V r k) (o .small r (honest-of n held h c r (suc k) right)))
+        (ap (reading most) (g .word) ∙ reading-word most (V r k) (o .small r known (honest-of n held h c r (suc k) right)))
         (free p r d right)
 
     -- who failed before is detected by everyone

@@ -27,7 +27,7 @@ module _ (n : ℕ) (held : ℕ → ℕ → Bool) (h : History) (c : Schedule) wh
     pub lawful : Lawful n held
     pub kept : Keeps n (protocol n held) h c
     pub pair : held (c .byzantine) (failing n c) ≡ true
-    pub bits : (r : ℕ) → has (c .byzantine) r ≡ false → h .start r ≤ 1
+    pub bits : (r : ℕ) → r < n → has (c .byzantine) r ≡ false → h .start r ≤ 1
 
   -- p is a standing process that has shut all its rounds
   pub record Finished (p : ℕ) : Type 0 where
@@ -75,12 +75,12 @@ Faults-halve = Always (λ n held h c. (s : ℕ) → 0 < n → ((i : ℕ) → s �
 
 -- at the end of a phase a process that is not Byzantine prefers 0 or 1
 abbrev pub Phase-ends-in-a-bit : Type 0
-Phase-ends-in-a-bit = Always (λ n held h c. (i p : ℕ) → has (c .byzantine) p ≡ false → value-after n held h c p (3 * i) ≤ 1)
+Phase-ends-in-a-bit = Always (λ n held h c. (i p : ℕ) → p < n → has (c .byzantine) p ≡ false → value-after n held h c p (3 * i) ≤ 1)
 
 -- these premises can be met: for every lawful rule, bits, schedule that the rule holds, lies and lost words
 -- there is a history that keeps the schedule, in which every process shuts all rounds
 abbrev pub Courses-exist : Type 0
 Courses-exist =
     (n : ℕ) (held : ℕ → ℕ → Bool) (start : ℕ → ℕ) (c : Schedule) (lies : ℕ → ℕ → ℕ → Option ℕ) (lost : ℕ → ℕ → ℕ → Bool)
-    → Lawful n held → held (c .byzantine) (failing n c) ≡ true → ((r : ℕ) → has (c .byzantine) r ≡ false → start r ≤ 1)
+    → Lawful n held → held (c .byzantine) (failing n c) ≡ true → ((r : ℕ) → r < n → has (c .byzantine) r ≡ false → start r ≤ 1)
     → (h : History) × Course n held h c × Runs n (protocol n held) (rounds-of n) start c lies lost h × ((p : ℕ) → h .shut p ≡ rounds-of n)
