@@ -6,6 +6,8 @@ use Rattle.refusal.specs.declared.place.Layer.{Layer}
 use Rattle.refusal.specs.declared.place.Layer.the-variants as layer
 use Rattle.refusal.specs.declared.place.Place.{Place}
 use Rattle.refusal.specs.declared.place.Place.the-variants.{Nowhere, At, Three}
+use Rattle.refusal.specs.declared.process.ProcessRefusal.{ProcessRefusal}
+use Rattle.refusal.specs.declared.process.ProcessRefusal.the-variants.{Stage, Number, Bit, Round, King, Twice}
 use Rattle.refusal.specs.declared.rule.RuleRefusal.{RuleRefusal}
 use Rattle.refusal.specs.declared.rule.RuleRefusal.the-variants.{Processes, PairCount, AboveProcesses, InBothSets, Cover, ByzantineAboveTotal, TotalTooHigh}
 use Rattle.refusal.specs.declared.script.Cause.{Cause}
@@ -31,6 +33,24 @@ rule-place (InBothSets i) = At i
 rule-place (Cover i j k) = Three i j k
 rule-place ByzantineAboveTotal = Nowhere
 rule-place TotalTooHigh = Nowhere
+
+-- the printed number of a process' refusal
+abbrev pub process-number : ProcessRefusal → ℕ
+process-number Stage = 8
+process-number (Number p) = 9
+process-number (Bit p) = 10
+process-number (Round p) = 11
+process-number (King p) = 12
+process-number (Twice p) = 13
+
+-- its place: the process number that was given
+abbrev pub process-place : ProcessRefusal → Place
+process-place Stage = Nowhere
+process-place (Number p) = At p
+process-place (Bit p) = At p
+process-place (Round p) = At p
+process-place (King p) = At p
+process-place (Twice p) = At p
 
 -- the printed number of a script's refusal: its own, or that of the layer below
 abbrev pub number-of : Cause → ℕ

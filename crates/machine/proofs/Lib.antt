@@ -1,0 +1,4 @@
+pub mod Journals
+pub mod Knowing
+pub mod Promising
+pub mod Ties
