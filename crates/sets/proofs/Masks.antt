@@ -9,7 +9,7 @@ use lib.Bits.{bitAnd, bitOr, and-step, or-step, and-shr, or-shr, and-zero-l}
 use lib.Dec.{eqb, ltb}
 use Rattle.std.specs.Orderings.{Decides}
 use Rattle.std.proofs.shelf.Bits.{shr-shr, mod-mul-add, pow-pos}
-use Rattle.std.proofs.shelf.Tests.{cases-bool, eq-eqb, eqb-true, and-parts, and-from}
+use Rattle.std.proofs.shelf.Tests.{cases-bool, cases-eq, eq-eqb, ne-eqb, eqb-true, lt-ltb, le-ltb, cond-true, cond-false, and-parts, and-from}
 use Rattle.std.proofs.shelf.Ways.{tells}
 use Rattle.sets.specs.Meaning.{Subset}
 use Rattle.sets.specs.Sets.{has, full, mask, subset}
@@ -102,6 +102,48 @@ has-mask (suc n) test zero =
 has-mask (suc n) test (suc s) =
     let half : (cond (test 0) 1 0 + 2 * mask n (λ s. test (suc s))) / 2 ≡ mask n (λ s. test (suc s)) = elim (test 0) as (λ b. (cond b 1 0 + 2 * mask n (λ s. test (suc s))) / 2 ≡ mask n (λ s. test (suc s))) [ true ↦ omega arith | false ↦ omega arith ] in
     has-suc _ s ∙ ap (λ x. has x s) half ∙ has-mask n (λ s. test (suc s)) s ∙ grind (arith, tells)
+
+-- a single process
+pub has-single : (i s : ℕ) → has (2 ^ i) s ≡ eqb i s
+has-single zero zero = has-zero (2 ^ 0) ∙ grind (arith, tells)
+has-single zero (suc s) = has-suc (2 ^ 0) s ∙ has-none s ∙ grind (arith, tells)
+has-single (suc i) zero = let p = pow-suc 2 i in let even : 2 ^ suc i % 2 ≡ 0 = omega arith in has-zero (2 ^ suc i) ∙ ap (λ x. eqb x 1) even ∙ grind (arith, tells)
+has-single (suc i) (suc s) = let p = pow-suc 2 i in let half : 2 ^ suc i / 2 ≡ 2 ^ i = omega arith in has-suc (2 ^ suc i) s ∙ ap (λ x. has x s) half ∙ has-single i s ∙ grind (arith, tells)
+
+or-none : (b : Bool) → (b || false) ≡ b
+or-none true = refl
+or-none false = refl
+
+and-none : (b : Bool) → (b && false) ≡ false
+and-none true = refl
+and-none false = refl
+
+-- one process more is tested: it joins where it passes
+pub mask-passed : (i : ℕ) (test : ℕ → Bool) → test i ≡ true → mask (i + 1) test ≡ bitOr (mask i test) (2 ^ i)
+mask-passed i test e =
+    same-sets (mask (i + 1) test) (bitOr (mask i test) (2 ^ i)) (λ s. has-mask (i + 1) test s ∙ by s ∙ sym (has-or (mask i test) (2 ^ i) s ∙ ap (λ b. b || has (2 ^ i) s) (has-mask i test s) ∙ ap (λ b. (ltb s i && test s) || b) (has-single i s)))
+  where
+    by : (s : ℕ) → (ltb s (i + 1) && test s) ≡ ((ltb s i && test s) || eqb i s)
+    by s =
+        ⊎-elim
+        (λ (same : i ≡ s). let t : test s ≡ true = subst (λ (x : ℕ). test x ≡ true) same e in let a : ltb s (i + 1) ≡ true = lt-ltb s (i + 1) (omega arith) in let b : eqb i s ≡ true = eq-eqb i s same in let l : ltb s i ≡ false = le-ltb s i (omega arith) in rw (a, t, b, l) refl)
+        (λ (ne : i ≡ s → ⊥). let b : eqb i s ≡ false = ne-eqb i s ne in let same : ltb s (i + 1) ≡ ltb s i = grind (arith, tells) in rw (b, same) (sym (or-none (ltb s i && test s))))
+        (cases-eq i s)
+
+pub mask-failed : (i : ℕ) (test : ℕ → Bool) → test i ≡ false → mask (i + 1) test ≡ mask i test
+mask-failed i test e =
+    same-sets (mask (i + 1) test) (mask i test) (λ s. has-mask (i + 1) test s ∙ by s ∙ sym (has-mask i test s))
+  where
+    by : (s : ℕ) → (ltb s (i + 1) && test s) ≡ (ltb s i && test s)
+    by s =
+        ⊎-elim
+        (λ (same : i ≡ s). let t : test s ≡ false = subst (λ (x : ℕ). test x ≡ false) same e in rw t (and-none (ltb s (i + 1)) ∙ sym (and-none (ltb s i))))
+        (λ (ne : i ≡ s → ⊥). let same : ltb s (i + 1) ≡ ltb s i = grind (arith, tells) in ap (λ b. b && test s) same)
+        (cases-eq i s)
+
+pub mask-step : (i : ℕ) (test : ℕ → Bool) → mask (i + 1) test ≡ cond (test i) (bitOr (mask i test) (2 ^ i)) (mask i test)
+mask-step i test =
+    ⊎-elim (λ e. mask-passed i test e ∙ sym (cond-true (test i) _ _ e)) (λ e. mask-failed i test e ∙ sym (cond-false (test i) _ _ e)) (cases-bool (test i))
 
 -- the test says what it should
 pub subset-members : (a b : ℕ) → subset a b ≡ true → Subset a b

@@ -3,7 +3,7 @@
 -- Nothing here has a width: the definitions hold for masks of any length.
 use mathlib.Core.Bool.{Bool, cond, _&&_}
 use Prim.Native.Nat.{ℕ, zero, suc, _+_, _-_, _*_, _/_, _%_, _^_}
-use lib.Bits.{bitAnd}
+use lib.Bits.{bitAnd, bitOr}
 use lib.Dec.{eqb, leb}
 use Rattle.std.specs.declared.option.Option.{Option}
 use Rattle.std.specs.declared.option.Option.the-variants.{Some, None}
@@ -41,3 +41,7 @@ set-of m = record { bits = m }
 -- the set of process p alone, if p is the number of a process
 abbrev pub single : ℕ → Option ProcessSet
 single p = cond (numbered p) (Some (set-of (2 ^ (p - 1)))) None
+
+-- a set with process p added, if p is the number of a process
+abbrev pub with-process : ProcessSet → ℕ → ProcessSet
+with-process m p = cond (numbered p) (set-of (bitOr (m .bits) (2 ^ (p - 1)))) m

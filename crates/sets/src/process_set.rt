@@ -6,7 +6,7 @@ ghost use lib.Bits.{bitAnd, bitOr};
 ghost use lib.Count.{ones};
 ghost use lib.Dec.{eqb};
 ghost use Rattle.sets.specs.Meaning.{Masks-are-sets};
-ghost use Rattle.sets.specs.Sets.{limit, has, full, subset, numbered, single, set-of};
+ghost use Rattle.sets.specs.Sets.{limit, has, full, subset, numbered, single, set-of, with-process};
 
 // The greatest number of processes in a crew: the one place in the code that fixes it.
 pub const MAX_PROCESSES: u8 = 16;
@@ -71,6 +71,16 @@ impl ProcessSet {
         ensures { λ r. ⌜ r ≡ (numbered number && has (self .bits) (number - 1)) ⌝ }
     {
         1 <= number && number <= MAX_PROCESSES && has_bit(self.bits, number - 1)
+    }
+
+    // The set with process `number` added; the same set where there is no such process.
+    pub fn with(self, number: u8) -> ProcessSet
+        ensures { λ r. ⌜ r ≡ with-process self number ⌝ }
+    {
+        match ProcessSet::of(number) {
+            Some(one) => self.union(one),
+            None => self,
+        }
     }
 
     // The processes of either set.
