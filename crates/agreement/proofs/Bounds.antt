@@ -8,7 +8,7 @@ use Rattle.std.proofs.shelf.Tests.{cases-bool, cond-both, not-false, true≢fal
 use Rattle.std.specs.declared.option.Option.{Option}
 use Rattle.adversary.specs.Laws.{Lawful}
 use Rattle.agreement.specs.Step.{State, Kind, unify, exchange, king, kind-at, kind-of, step-by, step, holds-saying, reading, or-zero, king-of}
-use Rattle.agreement.proofs.Pairs.{some-not-held}
+use Rattle.agreement.proofs.Pairs.{up-to-two, some-not-held}
 
 -- the kind of a round and of the next
 pub data Next (k : ℕ) : Type 0 where
@@ -62,13 +62,7 @@ module _ (n : ℕ) (held : ℕ → ℕ → Bool) where
 
         few : (b : Bool) → h 0 ≡ b → (d : Bool) → h 1 ≡ d → not (h 2) ≡ false → cond b (cond d 2 1) 0 ≤ 1
         few true p true q e =
-            absurd (some-not-held n held laws 2 row (s .detected) 0 1 2 (λ w l. small w l) p q (not-false (h 2) e))
-          where
-            small : (w : ℕ) → w ≤ 2 → (w ≡ 0) ⊎ ((w ≡ 1) ⊎ (w ≡ 2))
-            small zero l = inl refl
-            small (suc zero) l = inr (inl refl)
-            small (suc (suc zero)) l = inr (inr refl)
-            small (suc (suc (suc w))) l = absurd (omega arith)
+            absurd (some-not-held n held laws 2 row (s .detected) 0 1 2 up-to-two p q (not-false (h 2) e))
         few true p false q e = omega arith
         few false p d q e = omega arith
 

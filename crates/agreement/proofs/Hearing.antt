@@ -12,6 +12,7 @@ use Rattle.sets.specs.Sets.{has, mask}
 use Rattle.sets.proofs.Masks.{has-none, has-mask}
 use Rattle.history.specs.Protocols.{Protocol, History, state}
 use Rattle.history.specs.Schedules.{Schedule, correct, failing, Through, Message, Heard, Keeps}
+use Rattle.history.proofs.Correct.{honest-by}
 use Rattle.adversary.specs.Laws.{Lawful}
 use Rattle.agreement.specs.Step.{State, Kind, unify, exchange, king, kind-of, step-by, step, most-word, due-by, protocol, reading, caught, saying}
 use Rattle.agreement.proofs.Bounds.{Next, to-exchange, to-king, to-unify, next-kind, Fine, step-is, fine-next}
@@ -53,7 +54,7 @@ module _ (n : ℕ) (held : ℕ → ℕ → Bool) (h : History) (c : Schedule) wh
   Quiet k = (r : ℕ) → r < n → Honest r → c .last r ≡ suc k → ⊥
 
   pub honest-of : (r k : ℕ) → correct c r k ≡ true → Honest r
-  honest-of r k e = not-true (has (c .byzantine) r) (and-parts _ _ e .0)
+  honest-of r k e = honest-by c r k e
 
   lasting : (r k : ℕ) → correct c r k ≡ true → (c .last r ≡ 0) ⊎ (k < c .last r)
   lasting r k e = ⊎-elim (λ t. inl (eqb-true (c .last r) 0 t)) (λ t. inr (ltb-true k (c .last r) t)) (or-cases (eqb (c .last r) 0) (ltb k (c .last r)) (and-parts _ _ e .1))

@@ -2,7 +2,7 @@
 use mathlib.Core.Path.{_≡_, refl, sym, ap, subst, _∙_}
 use mathlib.Core.Bool.{Bool, true, false, _||_}
 use mathlib.Core.Logic.{_⊎_, inl, inr, ⊎-elim}
-use Prim.Native.Nat.{ℕ, _≤_, _<_}
+use Prim.Native.Nat.{ℕ, zero, suc, _≤_, _<_}
 use native.Mathlib.Omega.{arith}
 use Rattle.std.proofs.shelf.Tests.{or-left, or-right, true≢false}
 use Rattle.std.specs.declared.option.Option.{Option}
@@ -12,6 +12,13 @@ use Rattle.sets.proofs.Covering.{members-contained, each-covers}
 use Rattle.adversary.specs.Laws.{Lawful}
 use Rattle.agreement.specs.Step.{caught, saying, holds-saying}
 use Rattle.agreement.proofs.Rows.{everybody}
+
+-- the words that count at most
+pub up-to-two : (w : ℕ) → w ≤ 2 → (w ≡ 0) ⊎ ((w ≡ 1) ⊎ (w ≡ 2))
+up-to-two zero l = inl refl
+up-to-two (suc zero) l = inr (inl refl)
+up-to-two (suc (suc zero)) l = inr (inr refl)
+up-to-two (suc (suc (suc w))) l = absurd (omega arith)
 
 module _ (n : ℕ) (held : ℕ → ℕ → Bool) (laws : Lawful n held) where
   -- a pair within a held one is held

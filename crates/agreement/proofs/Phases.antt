@@ -13,7 +13,7 @@ use Rattle.adversary.specs.Laws.{Lawful}
 use Rattle.agreement.specs.Step.{State, Kind, unify, exchange, king, kind-of, step-by, due-by, protocol, reading, or-zero, holds-saying, king-of}
 use Rattle.agreement.proofs.Bounds.{Fine, fine-most, step-is}
 use Rattle.agreement.proofs.Hearing.{at, value-at, detected-at, at-next, Done, Honest, honest-of, done-before, correct-before, Quiet, Bits, fine, Got, hears-correct}
-use Rattle.agreement.proofs.Pairs.{some-not-held}
+use Rattle.agreement.proofs.Pairs.{up-to-two, some-not-held}
 use Rattle.agreement.proofs.Rows.{reading-word}
 use Rattle.agreement.proofs.Voting.{Open, open-unify, open-exchange, liars-held, clash}
 
@@ -62,21 +62,10 @@ module _ (n : ℕ) (held : ℕ → ℕ → Bool) (h : History) (c : Schedule) (l
 
     -- not everybody's words can be held
     not-both-held : (p : ℕ) → C p 0 ≡ true → C p 1 ≡ true → ⊥
-    not-both-held p x y = some-not-held n held laws 1 (h .row p k) (L p k) 0 1 1 small x y y
-      where
-        small : (w : ℕ) → w ≤ 1 → (w ≡ 0) ⊎ ((w ≡ 1) ⊎ (w ≡ 1))
-        small zero l = inl refl
-        small (suc zero) l = inr (inl refl)
-        small (suc (suc w)) l = absurd (omega arith)
+    not-both-held p x y = some-not-held n held laws 1 (h .row p k) (L p k) 0 1 1 (λ w l. ⊎-elim inl (⊎-elim (λ e. inr (inl e)) (λ e. absurd (omega arith))) (up-to-two w (omega arith))) x y y
 
     not-all-held : (p : ℕ) → E p 0 ≡ true → E p 1 ≡ true → E p 2 ≡ true → ⊥
-    not-all-held p x y z = some-not-held n held laws 2 (h .row p (suc k)) (L p (suc k)) 0 1 2 small x y z
-      where
-        small : (w : ℕ) → w ≤ 2 → (w ≡ 0) ⊎ ((w ≡ 1) ⊎ (w ≡ 2))
-        small zero l = inl refl
-        small (suc zero) l = inr (inl refl)
-        small (suc (suc zero)) l = inr (inr refl)
-        small (suc (suc (suc w))) l = absurd (omega arith)
+    not-all-held p x y z = some-not-held n held laws 2 (h .row p (suc k)) (L p (suc k)) 0 1 2 up-to-two x y z
 
     not-true-false : (b : Bool) → (b ≡ true → ⊥) → b ≡ false
     not-true-false b f = ⊎-elim (λ t. absurd (f t)) (λ e. e) (cases-bool b)
@@ -124,12 +113,9 @@ module _ (n : ℕ) (held : ℕ → ℕ → Bool) (h : History) (c : Schedule) (l
 
     module _ (king-known : leader < n) (king-right : correct c leader (suc (suc (suc k))) ≡ true) (quiet-one : Quiet n held h c k) (quiet-two : Quiet n held h c (suc k)) where
       bit-said : (r : ℕ) → D r k → (V r k ≡ 1) ⊎ (V r k ≡ 0)
-      bit-said r d = small (V r k) refl (open-one .small r (d .known) (honest-of n held h c r k (d .right)))
-        where
-          small : (w : ℕ) → V r k ≡ w → V r k ≤ 1 → (V r k ≡ 1) ⊎ (V r k ≡ 0)
-          small zero e l = inr e
-          small (suc zero) e l = inl e
-          small (suc (suc w)) e l = absurd (omega arith)
+      bit-said r d =
+          let few = open-one .small r (d .known) (honest-of n held h c r k (d .right)) in
+          ⊎-elim inr (⊎-elim inl (λ e. absurd (omega arith))) (up-to-two (V r k) (omega arith))
 
       -- after the first round no two correct processes prefer different bits
       no-split : (p q : ℕ) → D p (suc k) → D q (suc k) → V p (suc k) ≡ 0 → V q (suc k) ≡ 1 → ⊥

@@ -10,6 +10,7 @@ use Rattle.std.proofs.shelf.Tests.{cases-bool, cond-true, and-parts, and-from, 
 use Rattle.std.specs.Options.{isSome}
 use Rattle.std.specs.declared.option.Option.{Option}
 use Rattle.std.specs.declared.option.Option.the-variants.{Some, None}
+use Rattle.adversary.proofs.ListLaws.{unless}
 use Rattle.sets.specs.Sets.{has, mask}
 use Rattle.sets.proofs.Masks.{has-or, has-mask}
 use Rattle.agreement.specs.Step.{reading, says, caught, saying}
@@ -34,10 +35,6 @@ says-word w (Some x) e = eq-eqb x w (cc)
 says-from : (w : ℕ) (o : Option ℕ) → says w o ≡ true → o ≡ Some w
 says-from w None e = absurd (true≢false (sym e))
 says-from w (Some x) e = ap Some (eqb-true x w e)
-
-none-from : {X : Type 0} (o : Option X) → not (isSome o) ≡ true → o ≡ None
-none-from None e = refl
-none-from (Some x) e = absurd (true≢false (sym e))
 
 none-is : {X : Type 0} (o : Option X) → o ≡ None → not (isSome o) ≡ true
 none-is o e = ap (λ x. not (isSome x)) e
@@ -67,7 +64,7 @@ module _ (n most : ℕ) (row : ℕ → Option ℕ) (l : ℕ) where
   -- and nobody else
   pub caught-from : (r : ℕ) → has (caught n most row l) r ≡ true → (has l r ≡ true) ⊎ ((r < n) × (reading most (row r) ≡ None))
   caught-from r e =
-      ⊎-elim inl (λ t. let p = and-parts (ltb r n) _ t in inr (ltb-true r n (p .0), none-from (reading most (row r)) (p .1))) (or-cases (has l r) _ (sym (in-caught r) ∙ e))
+      ⊎-elim inl (λ t. let p = and-parts (ltb r n) _ t in inr (ltb-true r n (p .0), unless (reading most (row r)) (p .1))) (or-cases (has l r) _ (sym (in-caught r) ∙ e))
 
   pub saying-in : (w r : ℕ) → r < n → reading most (row r) ≡ Some w → has (caught n most row l) r ≡ false → has (saying n most row l w) r ≡ true
   saying-in w r known said free =

@@ -11,6 +11,7 @@ use Rattle.std.specs.declared.option.Option.the-variants.{Some, None}
 use Rattle.sets.specs.Sets.{has}
 use Rattle.history.specs.Claims.{Runs, Runs-exist}
 use Rattle.history.specs.Protocols.{Protocol, History, state}
+use Rattle.history.proofs.Correct.{honest-by}
 use Rattle.history.specs.Schedules.{Schedule, correct, Message, Heard, Keeps}
 
 module _ {S : Type 0} (a : Protocol S) (start : ℕ → ℕ) (c : Schedule) (lies : ℕ → ℕ → ℕ → Option ℕ) (lost : ℕ → ℕ → ℕ → Bool) where
@@ -124,7 +125,7 @@ module _ {S : Type 0} (a : Protocol S) (start : ℕ → ℕ) (c : Schedule) (lie
   byzantine-says p k r s e = cond-true (has (c .byzantine) r) _ _ e
 
   honest-of : (r k : ℕ) → correct c r k ≡ true → has (c .byzantine) r ≡ false
-  honest-of r k e = not-true (has (c .byzantine) r) (and-parts _ _ e .0)
+  honest-of r k e = honest-by c r k e
 
   said-running : (k : ℕ) (s : S) → a .over s ≡ false → said k s ≡ Some (a .word k s)
   unfolding said

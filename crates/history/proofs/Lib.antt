@@ -1,1 +1,2 @@
+pub mod Correct
 pub mod Existence

@@ -13,11 +13,13 @@ use Rattle.sets.specs.Sets.{has, limit}
 use Rattle.history.specs.Protocols.{History, state}
 use Rattle.history.specs.Schedules as schedules
 use Rattle.history.specs.Schedules.{Schedule, correct, standing, failing}
+use Rattle.history.proofs.Correct.{honest-by}
 use Rattle.adversary.specs.Laws.{Lawful}
 use Rattle.agreement.specs.Rounds.{rounds-of}
 use Rattle.agreement.specs.Step.{State, kind-of, due-by, protocol}
 use Rattle.agreement.specs.Theorems as theorems
 use Rattle.agreement.proofs.Agreeing.{agreement, validity}
+use Rattle.agreement.proofs.Rows.{read-or}
 use Rattle.machine.specs.Deeds.{Deed, started, spoke, heard, shut, deed-of-reply, deed-of, is-shut, shuts, Did}
 use Rattle.refusal.specs.declared.process.ProcessRefusal.{ProcessRefusal}
 use Rattle.machine.specs.declared.types.Reply.the-variants as reply
@@ -104,10 +106,6 @@ unfolding journal
 journal-bit d p [] never = refl
 journal-bit d p (e ∷ log) never = add-bit p (deed-of p e) (journal d p log) (λ m b x. never (shuts p log) m b (inl (x, refl))) ∙ journal-bit d p log (λ k m b x. never k m b (inr x))
 
-read-or : (o : Option ℕ) → (o ≡ None) ⊎ ((w : ℕ) × (o ≡ Some w))
-read-or None = inl refl
-read-or (Some w) = inr (w, refl)
-
 module _ (n : ℕ) (held : ℕ → ℕ → Bool) (c : Schedule) (log : List Entry) (course : Course n held c log) (d : ℕ) where
   abbrev J : ℕ → Journal
   J p = journal d p log
@@ -128,7 +126,7 @@ module _ (n : ℕ) (held : ℕ → ℕ → Bool) (c : Schedule) (log : List Entr
   known-of p l honest = knows n held (course .few) d p log (course .faithful p l honest) (λ k m b x. course .kept .numbered p k m b l honest x)
 
   honest-of : (p k : ℕ) → correct c p k ≡ true → Honest n held c log p
-  honest-of p k e = not-true (has (c .byzantine) p) (and-parts _ _ e .0)
+  honest-of p k e = honest-by c p k e
 
   -- a process with a deed is awake, and so is one that has shut a round
   awake-by : (p k : ℕ) (x : Deed) → p < n → Honest n held c log p → Did p k x log → Awake p
