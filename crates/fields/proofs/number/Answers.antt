@@ -10,8 +10,8 @@ returns-then-b-lt48 c =
     let n = c.loop-b.n in
     let bs = c.args.field.now in
     let i = c.loop-b.b-index in
-    let ne = eqb-false (length bs) 0 (sym c.if-is-empty.ensures) in
-    let short = number_short bs (omega arith) (omega (arith, c.if-field-gt-MAX-DIGITS.false)) in
+    let ne = eqb-false (length bs) 0 (sym c.if-is_empty.ensures) in
+    let short = number_short bs (omega arith) (omega (arith, c.if-field-gt-MAX_DIGITS.false)) in
     let bad : digits_from n (drop i bs) ≡ _ =
     elim c.then-b-lt48.branch [
       | then-b-lt48-via-then-b-lt48 w ↦ digits_low n bs i c.loop-b-test.true w.if-b-lt48.true
@@ -35,6 +35,6 @@ returns c =
     let n = c.loop-b.n in
     let bs = c.args.field.now in
     let i = c.loop-b.b-index in
-    let ne = eqb-false (length bs) 0 (sym c.if-is-empty.ensures) in
-    let short = number_short bs (omega arith) (omega (arith, c.if-field-gt-MAX-DIGITS.false)) in
+    let ne = eqb-false (length bs) 0 (sym c.if-is_empty.ensures) in
+    let short = number_short bs (omega arith) (omega (arith, c.if-field-gt-MAX_DIGITS.false)) in
     record { value = sym (digits_end n bs i c.loop-b-test.false) ∙ c.loop-b.invariant.1 ∙ sym short; small = ten_few i n (omega arith) c.loop-b.invariant.0 }

@@ -8,4 +8,4 @@ returns-in-Some c =
     record { value = sym (first_found (second_from c.args.count c.args.pairs.now) c.loop-i.i (length c.args.pairs.now) c.in-Some.found c.loop-i-test.true (sym c.in-Some.ensures.value)) ∙ c.loop-i.invariant; inside = c.in-Some.ensures.inside }
 
 pub loop-i-preserved : goal.loop-i-preserved
-loop-i-preserved c = sym (first_on (second_from c.args.count c.args.pairs.now) c.loop-i.i (length c.args.pairs.now) c.loop-i-test.true (sym c.in-default.ensures.value)) ∙ c.loop-i.invariant
+loop-i-preserved c = sym (first_on (second_from c.args.count c.args.pairs.now) c.loop-i.i (length c.args.pairs.now) c.loop-i-test.true (sym c.in_default.ensures.value)) ∙ c.loop-i.invariant

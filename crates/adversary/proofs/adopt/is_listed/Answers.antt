@@ -4,15 +4,15 @@ use Rattle.sets.specs.Pairs.{byz, fail, pair_of}
 use Rattle.adversary.specs.Rules.{listed}
 use Rattle.adversary.proofs.adopt.is_listed.Goals as goal
 
-pub returns-then-is-within : goal.returns-then-is-within
-returns-then-is-within c =
+pub returns-then-is_within : goal.returns-then-is_within
+returns-then-is_within c =
     let more = at_drop_more (λ ps. listed ps (byz c.args.pair) (fail c.args.pair)) c.args.pairs.now c.loop-greater.greater-index (pair_of 0 0) c.loop-greater-test.true in
-    ap (λ b. b || listed (drop (c.loop-greater.greater-index + 1) c.args.pairs.now) (byz c.args.pair) (fail c.args.pair)) c.if-is-within.ensures ∙ sym more ∙ c.loop-greater.invariant
+    ap (λ b. b || listed (drop (c.loop-greater.greater-index + 1) c.args.pairs.now) (byz c.args.pair) (fail c.args.pair)) c.if-is_within.ensures ∙ sym more ∙ c.loop-greater.invariant
 
 pub loop-greater-preserved : goal.loop-greater-preserved
 loop-greater-preserved c =
     let more = at_drop_more (λ ps. listed ps (byz c.args.pair) (fail c.args.pair)) c.args.pairs.now c.loop-greater.greater-index (pair_of 0 0) c.loop-greater-test.true in
-    ap (λ b. b || listed (drop (c.loop-greater.greater-index + 1) c.args.pairs.now) (byz c.args.pair) (fail c.args.pair)) c.if-is-within.ensures ∙ sym more ∙ c.loop-greater.invariant
+    ap (λ b. b || listed (drop (c.loop-greater.greater-index + 1) c.args.pairs.now) (byz c.args.pair) (fail c.args.pair)) c.if-is_within.ensures ∙ sym more ∙ c.loop-greater.invariant
 
 pub returns : goal.returns
 returns c =

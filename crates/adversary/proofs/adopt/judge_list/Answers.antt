@@ -13,9 +13,9 @@ pub returns : goal.returns
 returns c =
     let n = c.args.processes in
     let ps = c.args.pairs.now in
-    let answer = ap result_err c.check-list.ensures ∙ err_answered n (list_refusal n ps) in
+    let answer = ap result_err c.check_list.ensures ∙ err_answered n (list_refusal n ps) in
     record {
-      value = c.check-list.ensures;
+      value = c.check_list.ensures;
       answer = record {
         answer = answer;
         blame = λ i j k e. blame n ps i j k (sym answer ∙ e);
