@@ -22,7 +22,14 @@ lines_more : (s : Sheet) (k : ℕ) (t : List ℕ) (ps : List (List ℕ)) → 0 <
 lines_more s k t [] h = absurd (omega arith)
 lines_more s k t (p ∷ ps) h = refl
 
-pub lines_stop : (s : Sheet) (k : ℕ) (bs front rest : List ℕ) (e : Refusal) → Cut line_feed bs front rest → line_read s (suc k) front ≡ Err e → lines_read s k (split line_feed bs) ≡ Err e
-lines_stop s k bs front rest e c h =
+-- the line before the first line feed is read first
+lines_first : (s : Sheet) (k : ℕ) (bs front rest : List ℕ) (r : Result Sheet Refusal) → Cut line_feed bs front rest → line_read s (suc k) front ≡ r → lines_read s k (split line_feed bs) ≡ and_then r (λ s'. lines_read s' (suc k) (split line_feed rest))
+lines_first s k bs front rest r c h =
     ap (lines_read s k) c.pieces ∙ lines_more s k front (split line_feed rest) (split_some line_feed rest)
-    ∙ ap (λ (r : Result Sheet Refusal). and_then r (λ s'. lines_read s' (suc k) (split line_feed rest))) h
+    ∙ ap (λ (x : Result Sheet Refusal). and_then x (λ s'. lines_read s' (suc k) (split line_feed rest))) h
+
+pub lines_stop : (s : Sheet) (k : ℕ) (bs front rest : List ℕ) (e : Refusal) → Cut line_feed bs front rest → line_read s (suc k) front ≡ Err e → lines_read s k (split line_feed bs) ≡ Err e
+lines_stop s k bs front rest e c h = lines_first s k bs front rest (Err e) c h
+
+pub lines_go : (s s' : Sheet) (k : ℕ) (bs front rest : List ℕ) → Cut line_feed bs front rest → line_read s (suc k) front ≡ Ok s' → lines_read s k (split line_feed bs) ≡ lines_read s' (suc k) (split line_feed rest)
+lines_go s s' k bs front rest c h = lines_first s k bs front rest (Ok s') c h

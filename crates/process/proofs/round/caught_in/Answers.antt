@@ -19,7 +19,7 @@ pub loop-i-preserved : goal.loop-i-preserved
 loop-i-preserved c =
     let i = c.loop-i.i in
     let P : ℕ → Bool = λ r. not (is_some (reading c.args.most (row_of c.args.slots.now r))) in
-    let test : c.is-none.result ≡ P i = turned _ _ c.is-none.ensures ∙ ap (λ x. not (is_some x)) c.read-slot.ensures in
+    let test : c.is_none.result ≡ P i = turned _ _ c.is_none.ensures ∙ ap (λ x. not (is_some x)) c.read_slot.ensures in
     c.joined-silent.ensures ∙ ap₂ (λ (b : Bool) (m : ℕ). cond b (bit_or m (2 ^ i)) m) test c.loop-i.invariant ∙ sym (mask_step i P)
 
 pub returns : goal.returns

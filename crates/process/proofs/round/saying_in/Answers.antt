@@ -18,7 +18,7 @@ loop-i-preserved c =
     let back : i + 1 - 1 ≡ i = omega arith in
     let range : numbered (i + 1) ≡ true = and_from (leb 1 (i + 1)) (leb (i + 1) limit) (le-leb 1 (i + 1) (omega arith)) (le-leb (i + 1) limit (omega arith)) in
     let inside : c.contains.result ≡ has c.args.caught.bits i = c.contains.ensures ∙ ap₂ (λ (b : Bool) (k : ℕ). b && has c.args.caught.bits k) range back in
-    let word : c.is-word.result ≡ says c.args.word (reading c.args.most (row_of c.args.slots.now i)) = c.is-word.ensures ∙ ap (says c.args.word) c.read-slot.ensures in
+    let word : c.is_word.result ≡ says c.args.word (reading c.args.most (row_of c.args.slots.now i)) = c.is_word.ensures ∙ ap (says c.args.word) c.read_slot.ensures in
     c.joined-set.ensures ∙ ap₂ (λ (b : Bool) (m : ℕ). cond b (bit_or m (2 ^ i)) m) (ap₂ (λ (x y : Bool). x && not y) word inside) c.loop-i.invariant ∙ sym (mask_step i P)
 
 pub returns : goal.returns

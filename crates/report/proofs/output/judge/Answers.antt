@@ -14,5 +14,5 @@ kept bs (Err f) e = tt
 
 pub returns : goal.returns
 returns c =
-    let told = c.judge-script.ensures in
-    record { verdict = told.verdict; rounds = told.rounds; protected = kept c.args.script.now c.judge-script.result told.verdict }
+    let told = c.judge_script.ensures in
+    record { verdict = told.verdict; rounds = told.rounds; protected = kept c.args.script.now c.judge_script.result told.verdict }
