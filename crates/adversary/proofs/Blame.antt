@@ -1,9 +1,9 @@
 -- Refusal 5 names the first three listed pairs that cover the crew.
-use Rattle.std.proofs.Common.{◌≡◌, ℕ, suc, ◌+◌, ◌-◌, ◌<◌, ◌≤◌, Bool, true, false, not, ◌⊎◌, List, [], ◌∷◌, length, is_some, Some, None, Option, sym, refl, ap, ◌∙◌, subst, inl, inr, ⊎_elim, arith}
+use Rattle.std.proofs.Common.{◌≡◌, ℕ, suc, ◌-◌, ◌<◌, ◌≤◌, Bool, true, false, not, ◌⊎◌, List, [], ◌∷◌, length, is_some, Some, None, Option, sym, refl, ap, ◌∙◌, subst, inl, inr, ⊎_elim, arith}
 use Rattle.sets.specs.declared.fault_pair.FaultPair.{FaultPair}
 use Rattle.refusal.specs.declared.rule.RuleRefusal.{RuleRefusal}
 use Rattle.refusal.specs.declared.rule.RuleRefusal.TheVariants.{Cover, Processes, PairCount, AboveProcesses, InBothSets}
-use Rattle.adversary.specs.Refusals.{or_else, when, first, blamed, covers_at, third_from, second_from, least_cover, size_refusal, length_refusal, above, overlaps, pair_refusal, pairs_refusal, list_refusal, Before, Places, Blamed, Coverless}
+use Rattle.adversary.specs.Refusals.{or_else, when, blamed, covers_at, third_from, second_from, least_cover, size_refusal, length_refusal, above, overlaps, pair_refusal, pairs_refusal, list_refusal, Before, Blamed, Coverless}
 use Rattle.adversary.specs.ListLaws.{when_none, third_empty, second_empty, adopted, coverless}
 use Rattle.adversary.specs.Search.{first_is}
 

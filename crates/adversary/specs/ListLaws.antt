@@ -1,13 +1,13 @@
 -- A list that can be adopted is a lawful rule.
-use Rattle.std.specs.Prelude.{◌≡◌, ℕ, zero, suc, ◌+◌, ◌-◌, ◌<◌, ◌≤◌, Bool, true, false, not, ◌&&◌, ◌||◌, ◌⊎◌, List, [], ◌∷◌, length, is_some, Some, None, Option, ◌==◌, nat_le, refl}
-use Rattle.std.proofs.Common.{sym, ap, ◌∙◌, inl, inr, ⊎_elim, arith}
+use Rattle.std.specs.Prelude.{◌≡◌, ℕ, suc, ◌-◌, ◌<◌, ◌≤◌, Bool, true, false, not, List, [], ◌∷◌, length, is_some, Some, None, Option, ◌==◌, nat_le, refl}
+use Rattle.std.proofs.Common.{sym, ◌∙◌, ⊎_elim, arith}
 use Rattle.std.proofs.lemmas.Bool.{cases_lt, cases_Bool, and_parts, or_cases, or_left, or_right, or_parts, leb-true, eqb-false, not-false, true≢false}
 use Rattle.sets.specs.declared.fault_pair.FaultPair.{FaultPair}
 use Rattle.sets.specs.Pairs.{contained, covers, byz, fail}
 use Rattle.sets.specs.Sets.{limit, numbered}
 use Rattle.sets.proofs.Covering.{contained_trans, none_contained, covers_wider, covers_swap, covers_turn}
 use Rattle.adversary.specs.Laws.{Sized, Lawful}
-use Rattle.adversary.specs.Refusals.{when, blamed, size_refusal, length_refusal, pairs_refusal, cover_refusal, least_cover, second_from, third_from, covers_at, pair_at, list_refusal, adoptable, Coverless}
+use Rattle.adversary.specs.Refusals.{when, blamed, size_refusal, length_refusal, pairs_refusal, least_cover, second_from, third_from, covers_at, pair_at, list_refusal, adoptable, Coverless}
 use Rattle.adversary.specs.Rules.{listed}
 use Rattle.adversary.specs.Search.{or_else_none, first_empty}
 

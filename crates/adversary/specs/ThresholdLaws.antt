@@ -1,16 +1,15 @@
 -- Counts within their bounds are a lawful rule, and so are two rules at once.
-use Rattle.std.specs.Prelude.{◌≡◌, ℕ, ◌+◌, ◌*◌, ◌<◌, ◌≤◌, Bool, true, false, not, ◌&&◌, ◌||◌, None, bit_or, nat_le, nat_lt, refl}
-use Rattle.std.proofs.Common.{sym, ap, ◌∙◌, ⊎_elim, arith}
-use Rattle.std.specs.Int.Bits.{bit_and}
+use Rattle.std.specs.Prelude.{◌≡◌, ℕ, ◌+◌, ◌*◌, ◌<◌, ◌≤◌, Bool, true, false, ◌||◌, None, bit_or, nat_le, nat_lt, refl}
+use Rattle.std.proofs.Common.{sym, ◌∙◌, ⊎_elim, arith}
 use Rattle.std.specs.Int.Count.{ones}
-use Rattle.std.proofs.lemmas.Bool.{cases_Bool, and_parts, and_from, or_cases, or_left, or_right, leb-true, le-leb, leb-false, true≢false}
+use Rattle.std.proofs.lemmas.Bool.{cases_Bool, and_parts, and_from, or_cases, or_left, or_right, leb-true, le-leb, leb-false}
 use Rattle.sets.specs.Pairs.{contained, covers, cover_of}
 use Rattle.sets.specs.Meaning.{Covered, by_first, by_second, by_third, by_all, Subset}
 use Rattle.sets.specs.Sets.{has, full, subset}
-use Rattle.sets.proofs.Masks.{has_or, has_and, subset_members, members_subset}
+use Rattle.sets.proofs.Masks.{has_or, subset_members, members_subset}
 use Rattle.sets.proofs.Counting.{ones_or, ones_subset, ones_full}
 use Rattle.sets.proofs.Covering.{contained_members, in_covered}
-use Rattle.adversary.specs.Laws.{Sized, Lawful}
+use Rattle.adversary.specs.Laws.{Lawful}
 use Rattle.refusal.specs.declared.rule.RuleRefusal.TheVariants.{ByzantineAboveTotal, TotalTooHigh}
 use Rattle.adversary.specs.Refusals.{when, size_refusal, threshold_refusal, tolerable}
 use Rattle.adversary.specs.Rules.{within, both}

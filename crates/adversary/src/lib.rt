@@ -1,4 +1,6 @@
 // Fault rules: which processes may lie or fall silent together.
+#![tactic(auto)]
+
 mod adopt;
 mod counts;
 mod intersection;

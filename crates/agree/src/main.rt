@@ -1,4 +1,6 @@
 // Reads a script from standard input and prints its report.
+#![tactic(auto)]
+
 use report::report_of;
 use script::MAX_BYTES;
 use std::io::Read;

@@ -1,18 +1,16 @@
 -- The theorems: counting phases that are not good, and from there to agreement.
-use Rattle.std.proofs.Common.{◌≡◌, ℕ, zero, suc, ◌+◌, ◌-◌, ◌*◌, ◌/◌, ◌%◌, ◌^◌, ◌<◌, ◌≤◌, Bool, true, false, cond, not, ◌&&◌, ◌||◌, eqb, ltb, ◌⊎◌, Option, sym, refl, ap, ◌∙◌, subst, inl, inr, ⊎_elim, mod-lt, pow-suc, arith}
+use Rattle.std.proofs.Common.{◌≡◌, ℕ, zero, suc, ◌+◌, ◌-◌, ◌*◌, ◌/◌, ◌%◌, ◌^◌, ◌<◌, ◌≤◌, Bool, true, false, cond, not, eqb, ltb, sym, ap, ◌∙◌, subst, ⊎_elim, mod-lt, pow-suc, arith}
 use Rattle.std.proofs.lemmas.Bool.{cases_Bool, cases_eq, cases_lt, and_parts, and_from, or_left, true≢false}
 use Rattle.sets.specs.Sets.{has}
-use Rattle.history.specs.Claims.{Runs}
 use Rattle.history.specs.Protocols.{History, state}
-use Rattle.history.specs.Schedules.{Schedule, correct, standing, failing, Through, Keeps}
+use Rattle.history.specs.Schedules.{Schedule, correct, Through}
 use Rattle.history.proofs.Existence.{runs_exist}
-use Rattle.adversary.specs.Laws.{Lawful}
-use Rattle.agreement.specs.Rounds.{CeilLog, clog, rounds_of}
+use Rattle.agreement.specs.Rounds.{clog, rounds_of}
 use Rattle.agreement.specs.Step.{State, Kind, unify, exchange, king, kind_at, kind_of, king_of, protocol}
 use Rattle.agreement.specs.Theorems.{count, value_after, Course, Finished, Unanimous, Good, correct_count, Agreement, Validity, Persistence, GoodPhaseAgrees, FaultsHalve, PhaseEndsInABit, CoursesExist}
 use Rattle.agreement.proofs.Bounds.{Fine}
-use Rattle.agreement.proofs.Counts.{count_mono, count_same, count_most, count_ext, count_two, count_round}
-use Rattle.agreement.proofs.Hearing.{at, at_start, honest_of, correct_before, done_before, fate, not_both, fine}
+use Rattle.agreement.proofs.Counts.{count_mono, count_same, count_most, count_two, count_round}
+use Rattle.agreement.proofs.Hearing.{at, at_start, honest_of, correct_before, fate, not_both, fine}
 use Rattle.agreement.proofs.Logs.{clog_is}
 use Rattle.agreement.proofs.Phases as phases
 

@@ -1,6 +1,6 @@
 -- Which values a process may prefer after each kind of round: the step alone keeps them small.
-use Rattle.std.proofs.Common.{◌≡◌, ℕ, zero, suc, ◌%◌, ◌<◌, ◌≤◌, min, Bool, true, false, cond, not, ◌⊎◌, Option, sym, refl, ap, ◌∙◌, subst, inl, inr, ⊎_elim, arith}
-use Rattle.std.proofs.lemmas.Bool.{cases_Bool, cond_both, not-false, true≢false}
+use Rattle.std.proofs.Common.{◌≡◌, ℕ, zero, suc, ◌%◌, ◌≤◌, min, Bool, true, false, cond, not, Option, sym, refl, ap, subst, arith}
+use Rattle.std.proofs.lemmas.Bool.{cond_both, not-false}
 use Rattle.adversary.specs.Laws.{Lawful}
 use Rattle.agreement.specs.Step.{State, Kind, unify, exchange, king, kind_at, kind_of, step_by, step, holds_saying, reading, or_zero, king_of}
 use Rattle.agreement.proofs.Pairs.{up_to_two, some_not_held}

@@ -1,15 +1,13 @@
 -- What correct processes hear of each other, and whom they detect.
-use Rattle.std.proofs.Common.{◌≡◌, ℕ, zero, suc, ◌<◌, ◌≤◌, Bool, true, false, cond, not, ◌&&◌, ◌||◌, eqb, ltb, ◌⊎◌, Some, None, Option, sym, refl, ap, ◌∙◌, subst, inl, inr, ⊎_elim, arith}
-use Rattle.std.proofs.lemmas.Bool.{cases_Bool, cases_eq, cases_lt, and_parts, and_from, or_cases, or_left, or_right, not-true, not_from_false, eqb-true, eq-eqb, ltb-true, lt-ltb, true≢false}
-use Rattle.sets.specs.Sets.{has, mask}
-use Rattle.sets.proofs.Masks.{has_none, has_mask}
-use Rattle.history.specs.Protocols.{Protocol, History, state}
-use Rattle.history.specs.Schedules.{Schedule, correct, failing, Through, Message, Heard, Keeps}
+use Rattle.std.proofs.Common.{◌≡◌, ℕ, zero, suc, ◌<◌, ◌≤◌, Bool, true, false, not, eqb, ltb, ◌⊎◌, Some, None, sym, refl, subst, inl, inr, ⊎_elim, arith}
+use Rattle.std.proofs.lemmas.Bool.{cases_eq, cases_lt, and_parts, and_from, or_cases, or_left, or_right, not_from_false, eqb-true, eq-eqb, ltb-true, lt-ltb, true≢false}
+use Rattle.sets.specs.Sets.{has}
+use Rattle.history.specs.Protocols.{History, state}
+use Rattle.history.specs.Schedules.{Schedule, correct, Through, Message, Heard, Keeps}
 use Rattle.history.proofs.Correct.{honest_by}
 use Rattle.adversary.specs.Laws.{Lawful}
-use Rattle.agreement.specs.Step.{State, Kind, unify, exchange, king, kind_of, step_by, step, most_word, due_by, protocol, reading, caught, saying}
-use Rattle.agreement.proofs.Bounds.{Next, to_exchange, to_king, to_unify, next_kind, Fine, step_is, fine_next}
-use Rattle.agreement.proofs.Rows.{reading_word, caught_from}
+use Rattle.agreement.specs.Step.{State, kind_of, step, due_by, protocol}
+use Rattle.agreement.proofs.Bounds.{Fine, fine_next}
 
 module _ (n : ℕ) (held : ℕ → ℕ → Bool) (h : History) (c : Schedule) where
   -- the state of p after k rounds, and its parts

@@ -1,7 +1,6 @@
 -- The logarithm rounded up is what it should be, and there is only one.
-use Rattle.std.proofs.Common.{◌≡◌, ℕ, zero, suc, ◌+◌, ◌^◌, ◌<◌, ◌≤◌, true, false, cond, leb, subst, ⊎_elim, pow-suc, arith}
+use Rattle.std.proofs.Common.{◌≡◌, ℕ, zero, suc, ◌+◌, ◌^◌, ◌<◌, ◌≤◌, leb, subst, ⊎_elim, pow-suc, arith}
 use Rattle.std.proofs.lemmas.Bool.{leb-true, leb-false, cond_both, cases_lt}
-use Rattle.std.proofs.lemmas.Nat.{pow_below, pow_pos}
 use Rattle.agreement.specs.Rounds.{CeilLog, log_from, clog}
 
 below_pow : (n : ℕ) → n < 2 ^ n

@@ -1,12 +1,12 @@
 -- One phase of three rounds: a value that all correct processes prefer stays, and a good phase makes them prefer one.
-use Rattle.std.proofs.Common.{◌≡◌, ℕ, zero, suc, ◌<◌, ◌≤◌, min, Bool, true, false, cond, not, ◌⊎◌, Some, Option, sym, refl, ap, ◌∙◌, subst, inl, inr, ⊎_elim, arith}
+use Rattle.std.proofs.Common.{◌≡◌, ℕ, zero, suc, ◌<◌, ◌≤◌, min, Bool, true, false, cond, not, ◌⊎◌, Option, sym, refl, ap, ◌∙◌, subst, inl, inr, ⊎_elim, arith}
 use Rattle.std.proofs.lemmas.Bool.{cases_Bool, cases_eq, cond-true, cond-false, eq-eqb, not_from_true, not-false, true≢false}
 use Rattle.history.specs.Protocols.{History}
 use Rattle.history.specs.Schedules.{Schedule, correct, failing, Keeps}
 use Rattle.adversary.specs.Laws.{Lawful}
 use Rattle.agreement.specs.Step.{State, Kind, unify, exchange, king, kind_of, step_by, due_by, protocol, reading, or_zero, holds_saying, king_of}
 use Rattle.agreement.proofs.Bounds.{Fine, fine_most, step_is}
-use Rattle.agreement.proofs.Hearing.{at, value_at, detected_at, at_next, Done, Honest, honest_of, done_before, correct_before, Quiet, Bits, fine, Got, hears_correct}
+use Rattle.agreement.proofs.Hearing.{at, value_at, detected_at, at_next, Done, honest_of, done_before, Quiet, Bits, fine, Got, hears_correct}
 use Rattle.agreement.proofs.Pairs.{up_to_two, some_not_held}
 use Rattle.agreement.proofs.Rows.{reading_word}
 use Rattle.agreement.proofs.Voting.{Open, open_unify, open_exchange, liars_held, clash}

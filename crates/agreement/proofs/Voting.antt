@@ -1,17 +1,17 @@
 -- A round in which everybody speaks: who is detected, and which words cannot all come from faulty processes.
-use Rattle.std.proofs.Common.{◌≡◌, ℕ, zero, suc, ◌<◌, ◌≤◌, Bool, true, false, not, ◌&&◌, ltb, ◌⊎◌, Some, None, Option, sym, refl, ap, ◌∙◌, subst, inl, inr, ⊎_elim, arith}
-use Rattle.std.proofs.lemmas.Bool.{cases_Bool, cases_eq, and_from, not_from_false, lt-ltb, true≢false}
+use Rattle.std.proofs.Common.{◌≡◌, ℕ, zero, suc, ◌<◌, ◌≤◌, Bool, true, false, not, ltb, ◌⊎◌, Some, sym, ap, ◌∙◌, subst, inl, inr, ⊎_elim, arith}
+use Rattle.std.proofs.lemmas.Bool.{cases_Bool, and_from, not_from_false, lt-ltb, true≢false}
 use Rattle.sets.specs.Meaning.{by_first, by_second, by_third, by_all}
-use Rattle.sets.specs.Sets.{has, mask}
+use Rattle.sets.specs.Sets.{has}
 use Rattle.sets.proofs.Masks.{has_none, has_mask}
 use Rattle.history.specs.Protocols.{History}
 use Rattle.history.specs.Schedules.{Schedule, correct, failing, Keeps}
 use Rattle.adversary.specs.Laws.{Lawful}
-use Rattle.agreement.specs.Step.{State, Kind, unify, exchange, king, kind_of, step_by, due_by, protocol, reading, caught, saying, holds_saying}
+use Rattle.agreement.specs.Step.{State, Kind, unify, exchange, king, kind_of, due_by, protocol, reading, caught, saying, holds_saying}
 use Rattle.agreement.proofs.Bounds.{Next, to_exchange, to_king, to_unify, next_kind, Fine, step_is}
 use Rattle.agreement.proofs.Hearing.{at, value_at, detected_at, at_next, at_start, Done, Honest, Failed, honest_of, done_before, fate, not_both, Quiet, Bits, fine, Due, Got, hears, hears_correct}
 use Rattle.agreement.proofs.Pairs.{held_within, no_cover}
-use Rattle.agreement.proofs.Rows.{reading_word, caught_from, caught_silent, saying_in, Said, saying_from}
+use Rattle.agreement.proofs.Rows.{reading_word, caught_from, caught_silent, saying_in, saying_from}
 
 module _ (n : ℕ) (held : ℕ → ℕ → Bool) (h : History) (c : Schedule) (laws : Lawful n held) (kept : Keeps n (protocol n held) h c) (bits : Bits n held h c) where
   -- the round after k is one in which everybody speaks, and words up to `most` count

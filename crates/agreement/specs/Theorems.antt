@@ -6,7 +6,7 @@ use Rattle.history.specs.Protocols.{History, state}
 use Rattle.history.specs.Schedules.{Schedule, correct, standing, failing, Through, Keeps}
 use Rattle.adversary.specs.Laws.{Lawful}
 use Rattle.agreement.specs.Rounds.{rounds_of}
-use Rattle.agreement.specs.Step.{State, protocol}
+use Rattle.agreement.specs.Step.{protocol}
 
 -- how many of the numbers below n pass a test
 unfoldable pub count : ℕ → (ℕ → Bool) → ℕ

@@ -1,4 +1,6 @@
 // The agreement protocol: its steps, what it achieves, and how many rounds it runs.
+#![tactic(auto)]
+
 mod table;
 mod theorems;
 

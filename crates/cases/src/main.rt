@@ -1,4 +1,6 @@
 // Prints the report of each script on standard input. Each script is followed by a form feed.
+#![tactic(auto)]
+
 use fields::split_once;
 use report::report_of;
 use std::io::Read;

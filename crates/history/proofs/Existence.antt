@@ -1,11 +1,11 @@
 -- Every schedule is kept by a history: the rounds are run one after another, and words go as the schedule says.
-use Rattle.std.proofs.Common.{◌≡◌, ℕ, zero, suc, ◌<◌, ◌≤◌, Bool, true, false, cond, not, ◌&&◌, ◌||◌, eqb, ltb, ◌⊎◌, Some, None, Option, sym, refl, ap, ◌∙◌, subst, ap₂, inl, inr, ⊎_elim, arith}
-use Rattle.std.proofs.lemmas.Bool.{cases_Bool, cases_lt, cond-true, cond-false, cond_both, and_parts, and_right, or_from, not-true, not_from_true, eqb-true, eq-eqb, ne_eqb, ltb-true, le-ltb, lt-ltb, true≢false}
+use Rattle.std.proofs.Common.{◌≡◌, ℕ, zero, suc, ◌<◌, ◌≤◌, Bool, true, false, cond, not, eqb, ◌⊎◌, Some, None, Option, sym, refl, ap, ◌∙◌, subst, inl, inr, ⊎_elim, arith}
+use Rattle.std.proofs.lemmas.Bool.{cases_Bool, cases_lt, cond-true, cond-false, cond_both, and_right, or_from, eq-eqb, ne_eqb, le-ltb, true≢false}
 use Rattle.sets.specs.Sets.{has}
 use Rattle.history.specs.Claims.{Runs, RunsExist}
 use Rattle.history.specs.Protocols.{Protocol, History, state}
 use Rattle.history.proofs.Correct.{honest_by}
-use Rattle.history.specs.Schedules.{Schedule, correct, Message, Heard, Keeps}
+use Rattle.history.specs.Schedules.{Schedule, correct, Heard, Keeps}
 
 module _ {S : Type 0} (a : Protocol S) (start : ℕ → ℕ) (c : Schedule) (lies : ℕ → ℕ → ℕ → Option ℕ) (lost : ℕ → ℕ → ℕ → Bool) where
   -- what a process in state s is heard with, if it still speaks

@@ -1,5 +1,5 @@
 -- That schedules can be kept: what a history has to show for it.
-use Rattle.std.specs.Prelude.{◌≡◌, ℕ, suc, ◌<◌, ◌≤◌, Bool, true, false, ◌⊎◌, None, Option}
+use Rattle.std.specs.Prelude.{◌≡◌, ℕ, suc, ◌≤◌, Bool, true, false, ◌⊎◌, None, Option}
 use Rattle.sets.specs.Sets.{has}
 use Rattle.history.specs.Protocols.{Protocol, History, state}
 use Rattle.history.specs.Schedules.{Schedule, Keeps}

@@ -1,14 +1,9 @@
 -- What one process did, gathered round by round, and how its state follows from it.
-use Rattle.std.proofs.Common.{◌≡◌, ℕ, zero, suc, ◌+◌, ◌-◌, ◌<◌, ◌≤◌, Bool, true, false, cond, not, ◌&&◌, ◌||◌, eqb, ltb, leb, ◌⊎◌, List, [], ◌∷◌, length, get_or, set, replicate, is_some, Some, None, Option, sym, refl, ap, ◌∙◌, subst, inl, inr, ⊎_elim, arith}
+use Rattle.std.proofs.Common.{◌≡◌, ℕ, zero, suc, ◌-◌, ◌<◌, Bool, false, cond, ◌&&◌, eqb, Some, None, Option, refl, ap, ◌∙◌, arith}
 use mathlib.Core.Path.{fun_ext}
-use Rattle.std.proofs.lemmas.List.{get_or-set_same, get_or-set_other, get_or-replicate, get_or_past, length-set, length-replicate}
-use Rattle.std.proofs.lemmas.Bool.{cases_Bool, cases_eq, cases_lt, cond-true, cond-false, and_parts, and_from, and_left, and_right, or_parts, eqb-true, eq-eqb, ne_eqb, leb-true, not-true, not-false, true≢false}
-use Rattle.sets.specs.Sets.{limit}
-use Rattle.agreement.specs.Rounds.{rounds_of}
-use Rattle.agreement.specs.Step.{State, Kind, unify, exchange, king, kind_of, king_of, step, due_by}
+use Rattle.std.proofs.lemmas.Bool.{cond-true, cond-false, and_from, and_left, and_right, eq-eqb, ne_eqb}
+use Rattle.agreement.specs.Step.{State, step}
 use Rattle.machine.specs.Deeds.{Deed, started, spoke, heard, shut}
-use Rattle.machine.specs.Machine.{slot, core}
-use Rattle.machine.specs.declared.types.ProcessState.{ProcessState}
 
 -- the rounds shut, the start bit, and the row of words that process had in each round
 pub record Journal : Type 0 where

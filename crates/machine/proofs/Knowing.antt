@@ -1,14 +1,14 @@
 -- What is known of a process after any calls: it never started, or its state and its deeds are tied.
-use Rattle.std.proofs.Common.{◌≡◌, ℕ, zero, suc, ◌+◌, ◌-◌, ◌<◌, ◌≤◌, Bool, true, false, cond, not, ◌&&◌, ◌||◌, eqb, ltb, leb, ◌⊎◌, List, [], ◌∷◌, Some, None, Option, sym, refl, ap, ◌∙◌, subst, inl, inr, ⊎_elim, arith}
-use Rattle.std.proofs.lemmas.Bool.{cases_Bool, cases_eq, cases_lt, cond-true, cond-false, ltb-false, not-false, true≢false}
+use Rattle.std.proofs.Common.{◌≡◌, ℕ, suc, ◌-◌, ◌≤◌, Bool, true, false, cond, not, ltb, ◌⊎◌, Some, None, Option, sym, refl, ap, ◌∙◌, subst, inl, inr, ⊎_elim, arith}
+use Rattle.std.proofs.lemmas.Bool.{cases_eq, ltb-false, not-false, true≢false}
 use Rattle.sets.specs.Sets.{limit}
 use Rattle.refusal.specs.declared.process.ProcessRefusal.{ProcessRefusal}
-use Rattle.adversary.specs.Refusals.{or_else, when}
+use Rattle.adversary.specs.Refusals.{when}
 use Rattle.adversary.specs.Search.{or_else_none}
 use Rattle.adversary.specs.ListLaws.{when_none}
 use Rattle.agreement.specs.Step.{State}
 use Rattle.machine.specs.Deeds.{Deed, started, spoke, heard, shut, deed_of_reply}
-use Rattle.machine.specs.Machine.{resting, is_resting, is_due, is_listening, slot, muted, stranger, refused, spoken, answered_by, carried, reply_by, after_by, replied, after}
+use Rattle.machine.specs.Machine.{resting, is_resting, is_due, is_listening, muted, stranger, refused, spoken, answered_by, carried, reply_by, after_by, replied, after}
 use Rattle.machine.specs.declared.types.Call.{Call}
 use Rattle.machine.specs.declared.types.Call.TheVariants as call
 use Rattle.machine.specs.declared.types.ProcessState.{ProcessState}

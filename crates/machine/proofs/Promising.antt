@@ -1,30 +1,28 @@
 -- The promise: from a log of calls to a history that keeps the schedule, and from there by the agreement theorem.
-use Rattle.std.proofs.Common.{◌≡◌, ℕ, zero, suc, ◌+◌, ◌-◌, ◌<◌, ◌≤◌, Bool, true, false, cond, not, ◌&&◌, ◌||◌, eqb, ltb, leb, ◌⊎◌, List, [], ◌∷◌, Some, None, Option, sym, refl, ap, ◌∙◌, subst, inl, inr, ⊎_elim, arith}
-use Rattle.std.proofs.lemmas.Bool.{cases_Bool, cases_eq, cond-true, cond-false, and_parts, not-true, eqb-true, eqb-false, eq-eqb, ne_eqb, true≢false}
+use Rattle.std.proofs.Common.{◌≡◌, ℕ, zero, suc, ◌+◌, ◌<◌, ◌≤◌, Bool, true, false, cond, eqb, List, [], ◌∷◌, Some, None, Option, sym, refl, ap, ◌∙◌, subst, inl, inr, ⊎_elim, arith}
+use Rattle.std.proofs.lemmas.Bool.{cases_Bool, cases_eq, cond-true, cond-false, and_parts, not-true, eq-eqb, ne_eqb, true≢false}
 use Rattle.sets.specs.Sets.{has, limit}
 use Rattle.history.specs.Protocols.{History, state}
 use Rattle.history.specs.Schedules as schedules
 use Rattle.history.specs.Schedules.{Schedule, correct, standing, failing}
 use Rattle.history.proofs.Correct.{honest_by}
-use Rattle.adversary.specs.Laws.{Lawful}
 use Rattle.agreement.specs.Rounds.{rounds_of}
-use Rattle.agreement.specs.Step.{State, kind_of, due_by, protocol}
+use Rattle.agreement.specs.Step.{State, protocol}
 use Rattle.agreement.specs.Theorems as theorems
 use Rattle.agreement.proofs.Agreeing.{agreement, validity}
 use Rattle.agreement.proofs.Rows.{read_or}
 use Rattle.machine.specs.Deeds.{Deed, started, spoke, heard, shut, deed_of_reply, deed_of, is_shut, shuts, Did}
 use Rattle.refusal.specs.declared.process.ProcessRefusal.{ProcessRefusal}
 use Rattle.machine.specs.declared.types.Reply.TheVariants as reply
-use Rattle.machine.specs.Machine.{reply_by, resting, is_resting, is_decided, core, answered_by, replied, after}
-use Rattle.machine.specs.Promise.{ran, Faithful, Shows, Honest, Message, Keeps, Course, Started, Promise, PromiseKept}
+use Rattle.machine.specs.Machine.{reply_by, is_decided, answered_by, replied, after}
+use Rattle.machine.specs.Promise.{ran, Faithful, Shows, Honest, Message, Course, Started, PromiseKept}
 use Rattle.machine.specs.declared.types.Answer.TheVariants as answer
 use Rattle.machine.specs.declared.types.Call.{Call}
-use Rattle.machine.specs.declared.types.Call.TheVariants as call
 use Rattle.machine.specs.declared.types.Entry.{Entry}
 use Rattle.machine.specs.declared.types.ProcessState.{ProcessState}
 use Rattle.machine.proofs.Journals.{Journal, add, folded}
 use Rattle.machine.proofs.Knowing.{Facts, Known, asleep, awake, And, idle, called}
-use Rattle.machine.proofs.Ties.{F, Tie}
+use Rattle.machine.proofs.Ties.{Tie}
 
 -- what p did, by its journal; a process that never started has the bit d
 journal : ℕ → ℕ → List Entry → Journal

@@ -1,17 +1,16 @@
 -- A process' state is tied to what it did, and every call that is carried out keeps the tie.
-use Rattle.std.proofs.Common.{◌≡◌, ℕ, zero, suc, ◌+◌, ◌-◌, ◌<◌, ◌≤◌, Bool, true, false, cond, not, ◌&&◌, ◌||◌, eqb, ltb, leb, ◌⊎◌, List, length, get_or, set, replicate, is_some, Some, None, Option, sym, refl, ap, ◌∙◌, subst, inl, inr, ⊎_elim, arith}
+use Rattle.std.proofs.Common.{◌≡◌, ℕ, suc, ◌-◌, ◌<◌, ◌≤◌, Bool, true, false, not, ◌&&◌, ◌||◌, eqb, leb, ◌⊎◌, List, length, get_or, set, replicate, is_some, Some, None, Option, sym, refl, ap, ◌∙◌, subst, inl, inr, ⊎_elim, arith}
 use mathlib.Core.Path.{fun_ext}
 use Rattle.std.proofs.lemmas.List.{get_or-set_same, get_or-set_other, get_or-replicate, get_or_past, length-set, length-replicate}
-use Rattle.std.proofs.lemmas.Bool.{cases_Bool, cases_eq, cases_lt, cond-true, cond-false, cond_both, and_parts, and_from, and_left, and_right, or_parts, eqb-true, eqb-false, eq-eqb, ne_eqb, leb-true, leb-false, not-true, not-false, not_from_true, true≢false}
+use Rattle.std.proofs.lemmas.Bool.{cases_Bool, cases_eq, cases_lt, cond-true, cond-false, cond_both, and_parts, or_parts, eqb-true, eqb-false, eq-eqb, leb-true, leb-false, not-false, not_from_true, true≢false}
 use Rattle.sets.specs.Sets.{limit}
-use Rattle.adversary.specs.Refusals.{or_else, when}
+use Rattle.adversary.specs.Refusals.{when}
 use Rattle.adversary.specs.Search.{or_else_none}
 use Rattle.adversary.specs.ListLaws.{when_none}
 use Rattle.agreement.specs.Rounds.{rounds_of}
 use Rattle.agreement.specs.Step.{State, Kind, unify, exchange, king, kind_of, king_of, step, due_by}
-use Rattle.machine.specs.Deeds.{Deed, started, spoke, heard, shut}
-use Rattle.machine.specs.Machine.{resting, is_resting, is_due, is_listening, is_decided, shut_of, slot, core, stranger, is_king_round, is_king, muted, refused, spoken, carried}
-use Rattle.machine.specs.declared.types.Call.{Call}
+use Rattle.machine.specs.Deeds.{started, spoke, heard, shut}
+use Rattle.machine.specs.Machine.{is_resting, is_due, is_listening, is_decided, shut_of, slot, core, stranger, is_king_round, is_king, muted, refused, spoken, carried}
 use Rattle.machine.specs.declared.types.Call.TheVariants as call
 use Rattle.machine.specs.declared.types.ProcessState.{ProcessState}
 use Rattle.machine.specs.declared.types.Stage.{Stage}

@@ -1,10 +1,6 @@
 -- What a process did, read off the calls that were carried out.
 -- A log is a list of calls with what came of each, the latest first.
-use Rattle.std.specs.Prelude.{◌≡◌, ℕ, suc, ◌+◌, ◌<◌, ◌≤◌, Bool, true, false, cond, not, ◌&&◌, ◌⊎◌, List, [], ◌∷◌, Some, None, Option, ◌==◌}
-use Rattle.sets.specs.Sets.{has}
-use Rattle.history.specs.Schedules.{Schedule, correct, standing, failing}
-use Rattle.agreement.specs.Rounds.{rounds_of}
-use Rattle.agreement.specs.Step.{kind_of, due_by}
+use Rattle.std.specs.Prelude.{◌≡◌, ℕ, ◌+◌, cond, ◌⊎◌, List, [], ◌∷◌, Some, None, Option, ◌==◌}
 use Rattle.machine.specs.declared.types.Answer.{Answer}
 use Rattle.machine.specs.declared.types.Answer.TheVariants as answer
 use Rattle.machine.specs.declared.types.Call.{Call}

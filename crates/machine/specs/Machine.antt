@@ -1,6 +1,6 @@
 -- The six calls on one process: when each is refused, what it answers, and the process after it.
 -- The process runs under a rule for n processes that holds the pairs `held`.
-use Rattle.std.specs.Prelude.{◌≡◌, ℕ, suc, ◌+◌, ◌-◌, Bool, true, false, cond, not, ◌&&◌, ◌||◌, List, replicate, is_some, Some, None, Option, ◌==◌, nat_le, nat_lt, slice_index_or, slice_set}
+use Rattle.std.specs.Prelude.{ℕ, suc, ◌+◌, ◌-◌, Bool, true, false, cond, not, ◌&&◌, ◌||◌, replicate, is_some, Some, None, Option, ◌==◌, nat_le, nat_lt, slice_index_or, slice_set}
 use Rattle.sets.specs.Sets.{limit, set_of}
 use Rattle.adversary.specs.Refusals.{or_else, when}
 use Rattle.agreement.specs.Rounds.{rounds_of}

@@ -1,4 +1,6 @@
 // One process as a state machine of six calls, by definitions, and the promise over every list of calls.
+#![tactic(auto)]
+
 mod promise;
 mod types;
 

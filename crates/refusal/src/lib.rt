@@ -1,4 +1,6 @@
 // Why something is refused: the cases of every layer, and how each is printed.
+#![tactic(auto)]
+
 mod place;
 mod process;
 mod rule;

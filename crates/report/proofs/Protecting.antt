@@ -1,10 +1,10 @@
 -- An accepted script gives a lawful rule.
-use Rattle.std.proofs.Common.{◌≡◌, ℕ, Bool, true, false, cond, not, List, [], ◌∷◌, is_some, Some, None, Ok, Err, Option, Result, sym, refl, ap, ◌∙◌, subst, arith}
+use Rattle.std.proofs.Common.{◌≡◌, ℕ, Bool, true, false, cond, not, List, [], ◌∷◌, is_some, Some, None, Ok, Err, Option, Result, refl, ap, subst, arith}
 use Rattle.sets.specs.declared.fault_pair.FaultPair.{FaultPair}
 use Rattle.refusal.specs.declared.rule.RuleRefusal.{RuleRefusal}
 use Rattle.refusal.specs.declared.script.Refusal.{Refusal}
 use Rattle.adversary.specs.Laws.{Sized, Lawful}
-use Rattle.adversary.specs.Refusals.{or_else, list_refusal, threshold_refusal}
+use Rattle.adversary.specs.Refusals.{list_refusal, threshold_refusal}
 use Rattle.adversary.specs.Rules.{listed, within}
 use Rattle.std.proofs.lemmas.Bool.{true≢false}
 use Rattle.adversary.specs.ListLaws.{sized, adopted, list_lawful}

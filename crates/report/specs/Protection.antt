@@ -1,5 +1,5 @@
 -- What it means that a script's rule is accepted: the pairs that it holds keep the laws of a fault rule.
-use Rattle.std.specs.Prelude.{◌≡◌, ℕ, Bool, true, ◌&&◌, List, [], ◌∷◌, Some, None, Ok, Option}
+use Rattle.std.specs.Prelude.{◌≡◌, ℕ, Bool, true, List, [], ◌∷◌, Some, None, Ok, Option}
 use Rattle.sets.specs.declared.fault_pair.FaultPair.{FaultPair}
 use Rattle.adversary.specs.Laws.{Sized, Lawful}
 use Rattle.adversary.specs.Rules.{listed, within, both}

@@ -1,5 +1,5 @@
 -- Whether the rule of a script is accepted.
-use Rattle.std.specs.Prelude.{ℕ, ◌-◌, Bool, true, false, cond, not, ◌&&◌, List, [], ◌∷◌, is_some, Some, None, Ok, Err, Option, Result, slice_index}
+use Rattle.std.specs.Prelude.{ℕ, ◌-◌, Bool, true, false, cond, List, [], ◌∷◌, Some, None, Ok, Err, Option, Result, slice_index}
 use Rattle.sets.specs.declared.fault_pair.FaultPair.{FaultPair}
 use Rattle.adversary.specs.Refusals.{or_else, list_refusal, threshold_refusal}
 use Rattle.refusal.specs.declared.rule.RuleRefusal.{RuleRefusal}

@@ -1,4 +1,6 @@
 // From the bytes of a script to what is printed.
+#![tactic(auto)]
+
 mod output;
 mod verdict;
 

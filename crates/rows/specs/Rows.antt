@@ -1,7 +1,6 @@
 -- Worked examples of the definitions.
-use Rattle.std.specs.Prelude.{ℕ, Bool, true, false, not, ◌&&◌, List, [], ◌∷◌, is_some, Some, None, Option, ◌==◌, slice_index_or}
+use Rattle.std.specs.Prelude.{ℕ, Bool, false, not, ◌&&◌, List, [], ◌∷◌, is_some, Some, None, Option, ◌==◌, slice_index_or}
 use Rattle.sets.specs.Pairs.{contained, pair_of}
-use Rattle.sets.specs.declared.fault_pair.FaultPair.{FaultPair}
 use Rattle.adversary.specs.Rules.{within}
 use Rattle.agreement.specs.Step.{State, step}
 use Rattle.adversary.specs.Refusals.{list_refusal, threshold_refusal}

@@ -1,4 +1,6 @@
 // Worked examples that are shown to hold of the definitions, all by one computed check.
+#![tactic(auto)]
+
 ghost use Rattle.std.specs.Prelude.{◌≡◌, true};
 ghost use Rattle.rows.specs.Rows.{rows};
 

@@ -1,8 +1,6 @@
 -- The lines of a script: which fields each has, and what they mean.
 use Rattle.std.specs.Prelude.{ℕ, cond, List, [], ◌∷◌, Some, None, codes, Option}
 use Rattle.std.specs.Str.{bytes_eq}
-use Rattle.sets.specs.declared.fault_pair.FaultPair.{FaultPair}
-use Rattle.sets.specs.declared.process_set.ProcessSet.{ProcessSet}
 use Rattle.script.specs.declared.line.Entry.{Entry}
 use Rattle.script.specs.declared.line.Entry.TheVariants as entry
 use Rattle.script.specs.declared.line.Line.{Line}

@@ -1,4 +1,6 @@
 // Reading a script: its lines, what they give, and why it is refused.
+#![tactic(auto)]
+
 mod draft;
 mod fault;
 mod line;

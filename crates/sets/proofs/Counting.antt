@@ -1,5 +1,5 @@
 -- How many processes are in a set, for masks of any width.
-use Rattle.std.proofs.Common.{◌≡◌, ℕ, ◌+◌, ◌*◌, ◌/◌, ◌%◌, ◌^◌, ◌<◌, ◌≤◌, min, max, true, false, sym, refl, ap, ◌∙◌, subst, ⊎_elim, arith}
+use Rattle.std.proofs.Common.{◌≡◌, ℕ, ◌+◌, ◌*◌, ◌/◌, ◌%◌, ◌^◌, ◌<◌, ◌≤◌, min, max, true, false, refl, ap, ◌∙◌, ⊎_elim, arith}
 use lib.Bits.{bit_and, bit_or, and_step, or_step}
 use lib.Count.{ones, ones_step, ones-ones, ones-le}
 use Rattle.std.proofs.lemmas.Bool.{eqb-true, cases_Bool}

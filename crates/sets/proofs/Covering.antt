@@ -1,6 +1,6 @@
 -- Containment and cover, process by process, for masks of any width.
-use Rattle.std.proofs.Common.{◌≡◌, ℕ, ◌<◌, Bool, true, false, ◌&&◌, ◌||◌, sym, refl, ◌∙◌, ⊎_elim}
-use lib.Bits.{bit_and, bit_or}
+use Rattle.std.proofs.Common.{◌≡◌, ℕ, ◌<◌, true, ◌&&◌, ◌||◌, sym, refl, ◌∙◌, ⊎_elim}
+use lib.Bits.{bit_or}
 use Rattle.std.proofs.lemmas.Bool.{and_parts, and_from, or_cases, or_left, or_right, ltb-true, lt-ltb}
 use Rattle.sets.specs.Meaning.{Contained, Covered, by_first, by_second, by_third, by_all}
 use Rattle.sets.specs.Pairs.{contained, cover_of, covers}

@@ -1,4 +1,6 @@
 // Sets of processes, and fault pairs made of two of them.
+#![tactic(auto)]
+
 mod fault_pair;
 mod process_set;
 

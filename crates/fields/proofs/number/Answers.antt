@@ -1,6 +1,6 @@
-use Rattle.std.proofs.Common.{◌≡◌, ℕ, ◌+◌, ◌*◌, ◌≤◌, length, drop, sym, ap, ◌∙◌, arith}
+use Rattle.std.proofs.Common.{◌≡◌, ℕ, ◌+◌, ◌*◌, length, drop, sym, ap, ◌∙◌, arith}
 use Rattle.std.proofs.lemmas.Bool.{eqb-false}
-use Rattle.fields.specs.Fields.{digits_from, number_in}
+use Rattle.fields.specs.Fields.{digits_from}
 use Rattle.fields.proofs.Numbers.{digits_on, digits_low, digits_high, digits_end, ten_more, ten_few, number_short}
 use Rattle.fields.proofs.number.Goals as goal
 use Rattle.fields.proofs.number.Goals.{then-b-lt48-via-then-b-lt48, then-b-lt48-via-else-b-lt48+then-b-gt57}

@@ -1,4 +1,4 @@
-use Rattle.std.proofs.Common.{sym, arith}
+use Rattle.std.proofs.Common.{arith}
 use Rattle.fields.proofs.Parting.{run_found, run_on, run_end}
 use Rattle.fields.proofs.run_length.Goals as goal
 

@@ -1,4 +1,4 @@
-use Rattle.std.proofs.Common.{Ok, Err, sym, ap, ◌∙◌, arith}
+use Rattle.std.proofs.Common.{Err, sym, ap, ◌∙◌, arith}
 use Rattle.std.proofs.lemmas.Result.{err_from_is_err_and}
 use Rattle.adversary.specs.Refusals.{answered}
 use Rattle.adversary.proofs.Refusing.{answered_ok, answered_err, pairs_on, pairs_stop, pairs_end}

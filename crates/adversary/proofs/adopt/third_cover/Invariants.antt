@@ -1,5 +1,5 @@
-use Rattle.std.proofs.Common.{◌≡◌, ◌-◌, ◌≤◌, length}
-use Rattle.adversary.specs.Refusals.{first, when, covers_at, third_from, second_from, least_cover}
+use Rattle.std.proofs.Common.{◌≡◌, ◌-◌, length}
+use Rattle.adversary.specs.Refusals.{first, when, covers_at, third_from}
 use Rattle.adversary.proofs.adopt.third_cover.Given as goal
 
 -- what is left to try decides the answer

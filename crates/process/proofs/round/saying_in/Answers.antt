@@ -1,9 +1,9 @@
-use Rattle.std.proofs.Common.{◌≡◌, ℕ, ◌+◌, ◌-◌, ◌^◌, ◌≤◌, Bool, true, cond, not, ◌&&◌, leb, sym, refl, ap, ◌∙◌, ap₂, arith}
+use Rattle.std.proofs.Common.{◌≡◌, ℕ, ◌+◌, ◌-◌, ◌^◌, Bool, true, cond, not, ◌&&◌, leb, sym, refl, ap, ◌∙◌, ap₂, arith}
 use lib.Bits.{bit_or}
 use Rattle.std.proofs.lemmas.Bool.{and_from, le-leb}
 use Rattle.sets.specs.Sets.{limit, has, mask, numbered}
 use Rattle.sets.proofs.Masks.{mask_step}
-use Rattle.agreement.specs.Step.{reading, says, caught, saying}
+use Rattle.agreement.specs.Step.{reading, says, saying}
 use Rattle.process.specs.Rounds.{row_of}
 use Rattle.process.proofs.round.saying_in.Goals as goal
 

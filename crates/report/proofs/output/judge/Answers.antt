@@ -1,5 +1,4 @@
 use Rattle.std.proofs.Common.{◌≡◌, ℕ, List, IfOk, Ok, Err, Result, MatchResult}
-use Rattle.refusal.specs.declared.script.Refusal.{Refusal}
 use Rattle.script.specs.declared.fault.Fault.{Fault}
 use Rattle.script.specs.Refusals.{Refuses}
 use Rattle.report.specs.declared.verdict.Crew.{Crew}
