@@ -16,7 +16,7 @@ from pathlib import Path
 from agree import report
 from sheets import sheets
 
-PROGRAM = Path(__file__).resolve().parent.parent / "target" / "bin" / "agree"
+PROGRAM = Path(__file__).resolve().parent.parent / "crates" / "agree" / "out" / "agree"
 MOST_SHOWN = 5
 SECONDS = 60
 
