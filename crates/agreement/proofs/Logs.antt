@@ -1,7 +1,7 @@
 -- The logarithm rounded up is what it should be, and there is only one.
-use Rattle.std.proofs.Common.{◌≡◌, ℕ, zero, suc, ◌+◌, ◌^◌, ◌<◌, ◌≤◌, leb, subst, ⊎_elim, pow-suc, arith}
+use Rattle.std.proofs.Common.{◌≡◌, ℕ, zero, suc, ◌+◌, ◌^◌, ◌<◌, ◌≤◌, leb, subst, ⊎_elim, mul-le-mul, mul-le-mul_left, pow-suc, arith}
 use Rattle.std.proofs.lemmas.Bool.{leb-true, leb-false, cond_both, cases_lt}
-use Rattle.agreement.specs.Rounds.{CeilLog, log_from, clog}
+use Rattle.agreement.specs.Rounds.{CeilLog, log_from, clog, rounds_of}
 
 below_pow : (n : ℕ) → n < 2 ^ n
 below_pow zero = omega arith
@@ -33,3 +33,8 @@ clog_is n =
 
 pub one_log : (n m m' : ℕ) → CeilLog n m → CeilLog n m' → m ≡ m'
 one_log n m m' p q = omega (arith, p.least m' q.enough, q.least m p.enough)
+
+-- a greater crew runs no fewer rounds
+pub rounds_mono : (n m : ℕ) → n ≤ m → rounds_of n ≤ rounds_of m
+rounds_mono n m l =
+    mul-le-mul (mul-le-mul_left 3 l) ((clog_is n).least (clog m) (omega (arith, (clog_is m).enough)))

@@ -3,38 +3,30 @@ use Rattle.std.proofs.Common.{◌≡◌, ℕ, zero, suc, ◌<◌, ◌≤◌, Boo
 use Rattle.std.proofs.lemmas.Bool.{cases_Bool, cases_lt, cond-true, cond-false, cond_both, and_right, or_from, eq-eqb, ne_eqb, le-ltb, true≢false}
 use Rattle.sets.specs.Sets.{has}
 use Rattle.history.specs.Claims.{Runs, RunsExist}
+use Rattle.history.specs.Runs as going
 use Rattle.history.specs.Protocols.{Protocol, History, state}
 use Rattle.history.proofs.Correct.{honest_by}
 use Rattle.history.specs.Schedules.{Schedule, correct, Heard, Keeps}
 
 module _ {S : Type 0} (a : Protocol S) (start : ℕ → ℕ) (c : Schedule) (lies : ℕ → ℕ → ℕ → Option ℕ) (lost : ℕ → ℕ → ℕ → Bool) where
-  -- what a process in state s is heard with, if it still speaks
-  said : ℕ → S → Option ℕ
-  said k s = cond (a.over s) None (Some (a.word k s))
+  abbrev said : ℕ → S → Option ℕ
+  said = going.said a start c lies lost
 
-  -- what p hears from r in the round after k, where r is in state s
-  hears : ℕ → ℕ → ℕ → S → Option ℕ
-  hears k p r s =
-      cond (has c.byzantine r) (lies k r p)
-      (cond (correct c r (suc k)) (said k s)
-      (cond (eqb (c.last r) (suc k)) (cond (lost k r p) None (said k s)) None))
+  abbrev hears : ℕ → ℕ → ℕ → S → Option ℕ
+  hears = going.hears a start c lies lost
 
-  -- the states of all processes after k rounds
-  states : ℕ → ℕ → S
-  states zero p = a.begin (start p)
-  states (suc k) p = cond (a.over (states k p)) (states k p) (a.next k (λ r. hears k p r (states k r)) (states k p))
+  abbrev states : ℕ → ℕ → S
+  states = going.states a start c lies lost
 
-  -- how many of k rounds a process shuts
-  shuts : ℕ → ℕ → ℕ
-  shuts p zero = 0
-  shuts p (suc k) = cond (a.over (states k p)) (shuts p k) (suc k)
+  abbrev shuts : ℕ → ℕ → ℕ
+  shuts = going.shuts a start c lies lost
 
-  run : ℕ → History
-  run rounds = record { start = start; shut = λ p. shuts p rounds; row = λ p k r. hears k p r (states k r) }
+  abbrev run : ℕ → History
+  run = going.run a start c lies lost
 
   -- the states of the history are those that it was made from
-  state_is : (rounds p k : ℕ) → state a (run rounds) p k ≡ states k p
-  unfolding state states run
+  pub state_is : (rounds p k : ℕ) → state a (run rounds) p k ≡ states k p
+  unfolding state going.states going.run
   state_is rounds p zero = refl
   state_is rounds p (suc k) =
       let e = state_is rounds p k in
@@ -42,7 +34,7 @@ module _ {S : Type 0} (a : Protocol S) (start : ℕ → ℕ) (c : Schedule) (lie
 
   -- a stopped process stays as it is
   stays : (p k : ℕ) → a.over (states k p) ≡ true → states (suc k) p ≡ states k p
-  unfolding states
+  unfolding going.states
   stays p k e = cond-true (a.over (states k p)) _ _ e
 
   ran_on : (p k : ℕ) → a.over (states (suc k) p) ≡ false → a.over (states k p) ≡ false
@@ -58,13 +50,13 @@ module _ {S : Type 0} (a : Protocol S) (start : ℕ → ℕ) (c : Schedule) (lie
       (cases_lt j (suc k))
 
   shuts_few : (p k : ℕ) → shuts p k ≤ k
-  unfolding shuts
+  unfolding going.shuts
   shuts_few p zero = omega arith
   shuts_few p (suc k) = cond_both (a.over (states k p)) (shuts p k) (suc k) (λ x. x ≤ suc k) (λ e. omega (arith, shuts_few p k)) (λ e. omega arith)
 
   -- a process shuts just the rounds in which it has not stopped
   shut_running : (p k j : ℕ) → j < shuts p k → a.over (states j p) ≡ false
-  unfolding shuts
+  unfolding going.shuts
   shut_running p zero j h = absurd (omega arith)
   shut_running p (suc k) j h = by (a.over (states k p)) refl h (shut_running p k j)
     where
@@ -73,7 +65,7 @@ module _ {S : Type 0} (a : Protocol S) (start : ℕ → ℕ) (c : Schedule) (lie
       by false e h ih = ran p k j e (omega arith)
 
   running_shut : (p k j : ℕ) → j < k → a.over (states j p) ≡ false → j < shuts p k
-  unfolding shuts
+  unfolding going.shuts
   running_shut p zero j h e = absurd (omega arith)
   running_shut p (suc k) j h e = by (a.over (states k p)) refl (running_shut p k j)
     where
@@ -84,7 +76,7 @@ module _ {S : Type 0} (a : Protocol S) (start : ℕ → ℕ) (c : Schedule) (lie
 
   -- where it does not shut all, it has stopped
   stopped : (p k : ℕ) → (shuts p k ≡ k) ⊎ (a.over (states (shuts p k) p) ≡ true)
-  unfolding shuts
+  unfolding going.shuts
   stopped p zero = inl refl
   stopped p (suc k) = by (a.over (states k p)) refl (stopped p k)
     where
@@ -95,7 +87,7 @@ module _ {S : Type 0} (a : Protocol S) (start : ℕ → ℕ) (c : Schedule) (lie
   -- what is heard from a process that is not Byzantine
   module _ (p k r : ℕ) (s : S) (honest : has c.byzantine r ≡ false) where
     hears_honest : hears k p r s ≡ cond (correct c r (suc k)) (said k s) (cond (eqb (c.last r) (suc k)) (cond (lost k r p) None (said k s)) None)
-    unfolding hears
+    unfolding going.hears
     hears_honest = cond-false (has c.byzantine r) _ _ honest
 
     hears_correct : correct c r (suc k) ≡ true → hears k p r s ≡ said k s
@@ -114,24 +106,24 @@ module _ {S : Type 0} (a : Protocol S) (start : ℕ → ℕ) (c : Schedule) (lie
         hears_honest ∙ cond-false (correct c r (suc k)) _ _ (not_correct some (omega arith)) ∙ cond-false (eqb (c.last r) (suc k)) _ _ (ne_eqb (c.last r) (suc k) (omega arith))
 
   byzantine_says : (p k r : ℕ) (s : S) → has c.byzantine r ≡ true → hears k p r s ≡ lies k r p
-  unfolding hears
+  unfolding going.hears
   byzantine_says p k r s e = cond-true (has c.byzantine r) _ _ e
 
   honest_of : (r k : ℕ) → correct c r k ≡ true → has c.byzantine r ≡ false
   honest_of r k e = honest_by c r k e
 
   said_running : (k : ℕ) (s : S) → a.over s ≡ false → said k s ≡ Some (a.word k s)
-  unfolding said
+  unfolding going.said
   said_running k s e = cond-false (a.over s) _ _ e
 
   said_over : (k : ℕ) (s : S) → a.over s ≡ true → said k s ≡ None
-  unfolding said
+  unfolding going.said
   said_over k s e = cond-true (a.over s) _ _ e
 
   module _ (n rounds : ℕ) where
     -- a process that speaks is heard
     spoken : (p k r : ℕ) → k < shuts p rounds → a.over (states k r) ≡ false → hears k p r (states k r) ≡ said k (states k r) → Heard n a (run rounds) c p k r
-    unfolding run
+    unfolding going.run
     spoken p k r closed running e =
         let same = state_is rounds r k in
         record {
@@ -149,7 +141,7 @@ module _ {S : Type 0} (a : Protocol S) (start : ℕ → ℕ) (c : Schedule) (lie
         (cases_Bool (a.over (states k r)))
 
     keeps : Keeps n a (run rounds) c
-    unfolding run
+    unfolding going.run
     keeps = record {
       own = λ p k known closed right owed.
           spoken p k p closed (shut_running p rounds k closed) (hears_correct p k p (states k p) (honest_of p (suc k) right) right);
@@ -163,9 +155,9 @@ module _ {S : Type 0} (a : Protocol S) (start : ℕ → ℕ) (c : Schedule) (lie
         lost_or p k r closed honest e false l =
             ⊎_elim inl (λ t. inr t.1) (heard_or_over p k r closed (hears_last p k r (states k r) honest e ∙ cond-false (lost k r p) _ _ l))
 
-    runs : Runs n a rounds start c lies lost (run rounds)
-    unfolding run
-    runs = record {
+    pub runs_so : Runs n a rounds start c lies lost (run rounds)
+    unfolding going.run
+    runs_so = record {
       begins = λ p. refl;
       kept = keeps;
       ends = λ p. ⊎_elim inl (λ t. inr (shuts_few p rounds, ap a.over (state_is rounds p (shuts p rounds)) ∙ t)) (stopped p rounds);
@@ -174,4 +166,4 @@ module _ {S : Type 0} (a : Protocol S) (start : ℕ → ℕ) (c : Schedule) (lie
     }
 
 pub runs_exist : (S : Type 0) → RunsExist S
-runs_exist S n a rounds start c lies lost = (run a start c lies lost rounds, runs a start c lies lost n rounds)
+runs_exist S n a rounds start c lies lost = (run a start c lies lost rounds, runs_so a start c lies lost n rounds)

@@ -1,3 +1,4 @@
 pub mod Protocols
 pub mod Schedules
+pub mod Runs
 pub mod Claims

@@ -1,5 +1,5 @@
 -- What is in a set, process by process, for masks of any width.
-use Rattle.std.proofs.Common.{◌≡◌, ℕ, zero, suc, ◌+◌, ◌-◌, ◌*◌, ◌/◌, ◌%◌, ◌^◌, ◌≤◌, min, max, Bool, true, false, cond, ◌&&◌, ◌||◌, eqb, ltb, Decides, sym, refl, ap, ◌∙◌, subst, ⊎_elim, pow-suc, arith}
+use Rattle.std.proofs.Common.{◌≡◌, ℕ, zero, suc, ◌+◌, ◌-◌, ◌*◌, ◌/◌, ◌%◌, ◌^◌, ◌<◌, ◌≤◌, min, max, Bool, true, false, cond, ◌&&◌, ◌||◌, eqb, ltb, Decides, sym, refl, ap, ◌∙◌, subst, ap₂, ⊎_elim, pow-suc, arith}
 use lib.Bits.{bit_and, bit_or, and_step, or_step, and_shr, or_shr}
 use Rattle.std.proofs.lemmas.Nat.{shr-shr, mod-mul-add, pow_pos}
 use Rattle.std.proofs.lemmas.Bool.{cases_Bool, cases_eq, eq-eqb, ne_eqb, eqb-true, lt-ltb, le-ltb, cond-true, cond-false, and_parts}
@@ -153,3 +153,10 @@ members_subset a b h = eq-eqb (bit_and a b) a (same_sets (bit_and a b) a (λ s. 
 
 pub subset_decides : (a b : ℕ) → Decides (subset a b) (Subset a b)
 subset_decides a b = (subset_members a b, members_subset a b)
+
+-- a mask depends on the test of the first n positions alone
+pub mask_ext : (n : ℕ) (P Q : ℕ → Bool) → ((s : ℕ) → s < n → P s ≡ Q s) → mask n P ≡ mask n Q
+unfolding mask
+mask_ext zero P Q e = refl
+mask_ext (suc n) P Q e =
+    ap₂ (λ (b : Bool) (m : ℕ). cond b 1 0 + 2 * m) (e 0 (omega arith)) (mask_ext n (λ s. P (suc s)) (λ s. Q (suc s)) (λ s l. e (suc s) (omega arith)))
