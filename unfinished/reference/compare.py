@@ -23,7 +23,7 @@ from calls import answers
 from cases import call_cases, encoded, script_cases
 from scripts import scripts
 
-PROGRAMS = Path(__file__).resolve().parent.parent / "target" / "bin"
+CRATES = Path(__file__).resolve().parent.parent / "crates"
 MOST_SHOWN = 5
 SECONDS = 60
 
@@ -98,7 +98,8 @@ def random_pairs(of_calls, seed, count):
 def main():
     given = arguments()
     name = "call lists" if given.calls else "scripts"
-    program = given.program or PROGRAMS / ("calls" if given.calls else "agree")
+    built = "calls" if given.calls else "agree"
+    program = given.program or CRATES / built / "out" / built
     pairs = written(given.calls) if given.written else random_pairs(given.calls, given.seed, given.count)
     count = len(pairs) if given.written else given.count
     try:

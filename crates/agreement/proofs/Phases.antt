@@ -113,8 +113,8 @@ module _ (n : ℕ) (held : ℕ → ℕ → Bool) (h : History) (c : Schedule) (l
 
       -- after the first round no two correct processes prefer different bits
       no_split : (p q : ℕ) → D p (suc k) → D q (suc k) → V p (suc k) ≡ 0 → V q (suc k) ≡ 1 → ⊥
-      no_split p q dp dq zero-p one-q =
-          clash n held h c laws kept bits covered k 1 open_one p q 1 0 dp dq quiet_one (λ r d right. bit_said r d) (zero_from (C p 1) (C p 0) (sym (after_one p) ∙ zero-p)) (one_from (C q 1) (C q 0) (sym (after_one q) ∙ one-q))
+      no_split p q dp dq zero_p one_q =
+          clash n held h c laws kept bits covered k 1 open_one p q 1 0 dp dq quiet_one (λ r d right. bit_said r d) (zero_from (C p 1) (C p 0) (sym (after_one p) ∙ zero_p)) (one_from (C q 1) (C q 0) (sym (after_one q) ∙ one_q))
         where
           zero_from : (x y : Bool) → ◌≡◌ {A = ℕ} (cond x 0 (cond y 1 2)) 0 → x ≡ true
           zero_from true y e = refl

@@ -51,12 +51,12 @@ module _ (n : ℕ) (held : ℕ → ℕ → Bool) (few : n ≤ limit) (p : ℕ) w
 
   start_facts : (s : ProcessState) (j : Journal) (D : ℕ → Deed → Type 0) (m b : ℕ) → refused n s (call.Start m b) ≡ None → j.rounds ≡ 0 → ((k r : ℕ) → j.row k r ≡ None) → ((k : ℕ) (d : Deed) → D k d → ⊥)
       → Facts (add p (Some (started m b)) j) (And (Some (started m b)) j.rounds D)
-  start_facts s j D m b ok zero-rounds empty none =
+  start_facts s j D m b ok zero_rounds empty none =
       let a = or_else_none (when (not (is_resting s.stage)) _) _ ok in
       let c = or_else_none (when (stranger n m) _) _ a.1 in
       record {
         bit_small = ltb-false 1 b (when_none (ltb 1 b) _ c.1);
-        begun = (m, inl (refl, zero-rounds));
+        begun = (m, inl (refl, zero_rounds));
         one_start = λ k m' b'. ⊎_elim (λ x. let e = x.0 in cc) (λ d. absurd (none _ _ d));
         not_own = λ k r w. ⊎_elim (λ x. absurd (let e = x.0 in let z : ◌≡◌ {A = ℕ} 0 1 = cc in omega arith)) (λ d. absurd (none _ _ d));
         in_row = λ k r w. ⊎_elim (λ x. absurd (let e = x.0 in let z : ◌≡◌ {A = ℕ} 0 1 = cc in omega arith)) (λ d. absurd (none _ _ d));
@@ -136,9 +136,9 @@ module _ (n : ℕ) (held : ℕ → ℕ → Bool) (few : n ≤ limit) (p : ℕ) w
           let z : ◌≡◌ {A = ℕ} 0 1 = cc in omega arith
 
       apart : (k r : ℕ) → (j.rounds ≡ k → m - 1 ≡ r → ⊥) → put j.row j.rounds (m - 1) (Some w) k r ≡ j.row k r
-      apart k r no-clash =
+      apart k r no_clash =
           ⊎_elim
-          (λ (same : j.rounds ≡ k). subst (λ (i : ℕ). put j.row j.rounds (m - 1) (Some w) i r ≡ j.row i r) same (put_other j.row j.rounds (m - 1) (Some w) r (no-clash same)))
+          (λ (same : j.rounds ≡ k). subst (λ (i : ℕ). put j.row j.rounds (m - 1) (Some w) i r ≡ j.row i r) same (put_other j.row j.rounds (m - 1) (Some w) r (no_clash same)))
           (λ d. put_other_round j.row j.rounds (m - 1) (Some w) k r d)
           (cases_eq j.rounds k)
 

@@ -75,7 +75,7 @@ module _ (n : ℕ) (held : ℕ → ℕ → Bool) (few : n ≤ limit) (p : ℕ) w
 
   pub start_tie : (s : ProcessState) (j : Journal) (m b : ℕ) → m ≡ suc p → refused n s (call.Start m b) ≡ None → j.rounds ≡ 0 → ((k r : ℕ) → j.row k r ≡ None) → Tie (carried n held s (call.Start m b)) (add p (Some (started m b)) j)
   unfolding folded
-  start_tie s j m b own ok zero-rounds empty =
+  start_tie s j m b own ok zero_rounds empty =
       let a = or_else_none (when (not (is_resting s.stage)) _) _ ok in
       let c = or_else_none (when (stranger n m) _) _ a.1 in
       let range = and_parts (leb 1 m) (leb m n) (not-false _ (when_none (stranger n m) _ c.0)) in
@@ -88,7 +88,7 @@ module _ (n : ℕ) (held : ℕ → ℕ → Bool) (few : n ≤ limit) (p : ℕ) w
         known = known;
         number = own;
         round = omega arith;
-        state = subst (λ (k : ℕ). record { preferred = b; detected = 0; follows = false } ≡ folded n held j.row b k) (sym zero-rounds) refl;
+        state = subst (λ (k : ℕ). record { preferred = b; detected = 0; follows = false } ≡ folded n held j.row b k) (sym zero_rounds) refl;
         slots = λ r. none_slot r ∙ sym (empty j.rounds r);
         places = refl;
         beyond = λ k r l. empty k r;
