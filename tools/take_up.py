@@ -20,6 +20,14 @@ def own_path(path):
     return below[: -len(".txt")] if below.endswith((".rt.txt", ".antt.txt", "crates.txt.txt")) else below
 
 
+def drop_empty(folder):
+    """Removes a folder in which nothing is left, and those above it."""
+    try:
+        os.removedirs(folder)
+    except OSError:
+        pass
+
+
 def main():
     if subprocess.run(["git", "status", "--porcelain"], capture_output=True, text=True, check=True).stdout:
         sys.exit("take_up.py: commit first")
@@ -28,6 +36,7 @@ def main():
         for path in listed.read().split("\n"):
             if path and os.path.exists(path):
                 os.remove(path)
+                drop_empty(os.path.dirname(path))
     os.remove(removed)
     for folder, _, files in os.walk(ASIDE):
         for name in files:
