@@ -3,7 +3,7 @@ use Rattle.std.proofs.Common.{◌≡◌, ℕ, suc, ◌-◌, ◌<◌, ◌≤◌, 
 use Rattle.sets.specs.declared.fault_pair.FaultPair.{FaultPair}
 use Rattle.refusal.specs.declared.rule.RuleRefusal.{RuleRefusal}
 use Rattle.refusal.specs.declared.rule.RuleRefusal.TheVariants.{Cover, Processes, PairCount, AboveProcesses, InBothSets}
-use Rattle.adversary.specs.Refusals.{or_else, when, blamed, covers_at, third_from, second_from, least_cover, size_refusal, length_refusal, above, overlaps, pair_refusal, pairs_refusal, list_refusal, Before, Blamed, Coverless}
+use Rattle.adversary.specs.Refusals.{or_else, when, blamed, covers_at, third_from, second_from, least_cover, size_refusal, length_refusal, above, overlaps, pair_refusal, pairs_refusal, list_refusal, most_pairs, Before, Blamed, Coverless, Judged}
 use Rattle.adversary.specs.ListLaws.{when_none, third_empty, second_empty, adopted, coverless}
 use Rattle.adversary.specs.Search.{first_is}
 
@@ -42,6 +42,12 @@ found n ps t e =
           b;
     } in
     subst (λ (x : ℕ × ℕ × ℕ). Found n ps x.0 x.1 x.2) told.1 here
+
+-- so its indices are those of places in a list
+pub places : (n : ℕ) (ps : List FaultPair) (t : ℕ × ℕ × ℕ) → least_cover n ps ≡ Some t → length ps ≤ most_pairs → (t.0 < most_pairs) × (t.1 < most_pairs) × (t.2 < most_pairs)
+places n ps t e short =
+    let f = found n ps t e in
+    (omega (arith, f.first_second, f.second_third, f.inside), omega (arith, f.second_third, f.inside), omega (arith, f.inside))
 
 -- only the search names three pairs
 or_else_some : {X : Type 0} (x y : Option X) (z : X) → or_else x y ≡ Some z → (x ≡ Some z) ⊎ (y ≡ Some z)
@@ -103,3 +109,11 @@ blame n ps i j k e =
 
 pub blameless : (n : ℕ) (ps : List FaultPair) → list_refusal n ps ≡ None → Coverless n ps
 blameless n ps e = coverless n ps (adopted n ps (ap (λ o. not (is_some o)) e)).apart
+
+-- what a refusal says that is the list's
+pub judged : (n : ℕ) (ps : List FaultPair) (o : Option RuleRefusal) → o ≡ list_refusal n ps → Judged o n ps
+judged n ps o e = record {
+  answer = e;
+  blame = λ i j k b. blame n ps i j k (sym e ∙ b);
+  coverless = λ b. blameless n ps (sym e ∙ b);
+}
