@@ -9,7 +9,7 @@ use Rattle.adversary.specs.Search.{first_is}
 
 when_some : {X : Type 0} (b : Bool) (x y : X) → when b x ≡ Some y → (b ≡ true) × (x ≡ y)
 when_some true x y e = (refl, cc)
-when_some false x y e = absurd (let z : ◌≡◌ {A = ℕ} 0 1 = cc in omega arith)
+when_some false x y e = absurd cc
 
 -- the search finds three indices in order that cover, and none before them
 record Found (n : ℕ) (ps : List FaultPair) (i j k : ℕ) : Type 0 where
@@ -66,20 +66,20 @@ module _ (i j k : ℕ) where
 
   never_pair : (n m : ℕ) (p : FaultPair) → Never (pair_refusal n m p)
   never_pair n m p =
-      never_or (when (above n p) (AboveProcesses m)) (when (overlaps p) (InBothSets m)) (never_when (above n p) (AboveProcesses m) (λ e. let z : ◌≡◌ {A = ℕ} 0 1 = cc in omega arith)) (never_when (overlaps p) (InBothSets m) (λ e. let z : ◌≡◌ {A = ℕ} 0 1 = cc in omega arith))
+      never_or (when (above n p) (AboveProcesses m)) (when (overlaps p) (InBothSets m)) (never_when (above n p) (AboveProcesses m) (λ e. cc)) (never_when (overlaps p) (InBothSets m) (λ e. cc))
 
   never_pairs : (n m : ℕ) (ps : List FaultPair) → Never (pairs_refusal n m ps)
-  never_pairs n m [] = λ e. let z : ◌≡◌ {A = ℕ} 0 1 = cc in omega arith
+  never_pairs n m [] = λ e. cc
   never_pairs n m (p ∷ ps) = never_or (pair_refusal n m p) (pairs_refusal n (suc m) ps) (never_pair n m p) (never_pairs n (suc m) ps)
 
   blamed_from : (o : Option (ℕ × ℕ × ℕ)) → blamed o ≡ Some (Cover i j k) → (t : ℕ × ℕ × ℕ) × (o ≡ Some t) × (suc t.0 ≡ i) × (suc t.1 ≡ j) × (suc t.2 ≡ k)
-  blamed_from None e = absurd (let z : ◌≡◌ {A = ℕ} 0 1 = cc in omega arith)
+  blamed_from None e = absurd cc
   blamed_from (Some t) e = (t, refl, cc, cc, cc)
 
   from_search : (n : ℕ) (ps : List FaultPair) → list_refusal n ps ≡ Some (Cover i j k) → blamed (least_cover n ps) ≡ Some (Cover i j k)
   from_search n ps e =
-      ⊎_elim (λ x. absurd (never_when _ Processes (λ e. let z : ◌≡◌ {A = ℕ} 0 1 = cc in omega arith) x))
-      (λ e. ⊎_elim (λ x. absurd (never_when _ PairCount (λ e. let z : ◌≡◌ {A = ℕ} 0 1 = cc in omega arith) x))
+      ⊎_elim (λ x. absurd (never_when _ Processes (λ e. cc) x))
+      (λ e. ⊎_elim (λ x. absurd (never_when _ PairCount (λ e. cc) x))
       (λ e. ⊎_elim (λ x. absurd (never_pairs n 1 ps x)) (λ e. e) (or_else_some (pairs_refusal n 1 ps) _ (Cover i j k) e))
       (or_else_some (length_refusal (length ps)) _ (Cover i j k) e))
       (or_else_some (size_refusal n) _ (Cover i j k) e)

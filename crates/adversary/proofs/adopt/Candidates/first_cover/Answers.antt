@@ -1,11 +1,7 @@
 use Rattle.std.proofs.Common.{length, sym, ◌∙◌}
 use Rattle.adversary.specs.Refusals.{second_from}
-use Rattle.adversary.specs.Search.{first_found, first_on}
+use Rattle.adversary.specs.Search.{first_on}
 use Rattle.adversary.proofs.adopt.Candidates.first_cover.Goals as goal
-
-pub returns-in-Some : goal.returns-in-Some
-returns-in-Some c =
-    sym (first_found (second_from c.args.self.now.processes c.args.self.now.pairs.now) c.loop-i.i (length c.args.self.now.pairs.now) c.in-Some.found c.loop-i-test.true (sym c.in-Some.ensures)) ∙ c.loop-i.invariant
 
 pub loop-i-preserved : goal.loop-i-preserved
 loop-i-preserved c = sym (first_on (second_from c.args.self.now.processes c.args.self.now.pairs.now) c.loop-i.i (length c.args.self.now.pairs.now) c.loop-i-test.true (sym c.in_default.ensures)) ∙ c.loop-i.invariant

@@ -1,11 +1,7 @@
 use Rattle.std.proofs.Common.{length, sym, ◌∙◌}
 use Rattle.adversary.specs.Refusals.{third_from}
-use Rattle.adversary.specs.Search.{first_found, first_on}
+use Rattle.adversary.specs.Search.{first_on}
 use Rattle.adversary.proofs.adopt.Candidates.second_cover.Goals as goal
-
-pub returns-in-Some : goal.returns-in-Some
-returns-in-Some c =
-    sym (first_found (third_from c.args.self.now.processes c.args.self.now.pairs.now c.args.i) c.loop-j.j (length c.args.self.now.pairs.now) c.in-Some.found c.loop-j-test.true (sym c.in-Some.ensures)) ∙ c.loop-j.invariant
 
 pub loop-j-preserved : goal.loop-j-preserved
 loop-j-preserved c = sym (first_on (third_from c.args.self.now.processes c.args.self.now.pairs.now c.args.i) c.loop-j.j (length c.args.self.now.pairs.now) c.loop-j-test.true (sym c.in_default.ensures)) ∙ c.loop-j.invariant
