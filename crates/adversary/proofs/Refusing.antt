@@ -1,10 +1,7 @@
 -- What the answer of a check tells of its refusal.
-use Rattle.std.proofs.Common.{◌≡◌, ℕ, suc, ◌+◌, ◌<◌, ◌≤◌, List, length, get_or, drop, Some, None, Ok, Err, Option, refl, ap, ◌∙◌, arith}
-use Rattle.std.proofs.lemmas.List.{at_drop_more, at_drop_all}
-use Rattle.sets.specs.declared.fault_pair.FaultPair.{FaultPair}
-use Rattle.sets.specs.Pairs.{pair_of}
+use Rattle.std.proofs.Common.{◌≡◌, Some, None, Ok, Err, Option, refl}
 use Rattle.refusal.specs.declared.rule.RuleRefusal.{RuleRefusal}
-use Rattle.adversary.specs.Refusals.{answered, or_else, pair_refusal, pairs_refusal}
+use Rattle.adversary.specs.Refusals.{answered}
 
 pub answered_ok : {X : Type 0} (x y : X) (o : Option RuleRefusal) → Ok y ≡ answered x o → o ≡ None
 answered_ok x y None e = refl

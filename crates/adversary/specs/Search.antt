@@ -16,7 +16,10 @@ module _ {X : Type 0} (f : ℕ → Option X) where
       let n : suc k ≡ k + 1 = omega arith in
       ap (first f k) c ∙ ap (λ s. or_else (f k) (first f s (m - (k + 1)))) n
 
-  -- going on where there is no answer at k
+  -- the answer at k, and going on where there is none
+  pub first_found : (k m : ℕ) (x : X) → k < m → f k ≡ Some x → first f k (m - k) ≡ Some x
+  first_found k m x h e = first_more k m h ∙ ap (λ o. or_else o (first f (k + 1) (m - (k + 1)))) e
+
   pub first_on : (k m : ℕ) → k < m → f k ≡ None → first f k (m - k) ≡ first f (k + 1) (m - (k + 1))
   first_on k m h e = first_more k m h ∙ ap (λ o. or_else o (first f (k + 1) (m - (k + 1)))) e
 

@@ -1,9 +1,9 @@
 // How a pair list is made, checked and asked.
-ghost use Rattle.std.specs.Prelude.{◌≡◌, ◌+◌, ◌<◌, ◌≤◌, [], ◌∷◌, length, IfOk, MatchResult};
+ghost use Rattle.std.specs.Prelude.{◌≡◌, ℕ, ◌+◌, ◌-◌, ◌<◌, ◌≤◌, [], ◌∷◌, length, Option, IfOk, MatchResult};
 ghost use Rattle.std.specs.Result.{result_err};
 ghost use Rattle.sets.specs.Pairs.{byz, fail, pair_of};
 ghost use Rattle.sets.specs.Sets.{limit};
-ghost use Rattle.adversary.specs.Refusals.{answered, size_refusal, pair_refusal, pairs_refusal, third_from, second_from, least_cover, cover_refusal, list_refusal, most_pairs, Judged};
+ghost use Rattle.adversary.specs.Refusals.{first, answered, size_refusal, pair_refusal, pairs_refusal, third_from, second_from, least_cover, cover_refusal, list_refusal, most_pairs, Judged};
 ghost use Rattle.adversary.specs.Rules.{listed};
 ghost use Rattle.adversary.specs.Lists.{Has, pairs_of};
 ghost use Rattle.adversary.specs.ListLaws;
@@ -31,6 +31,20 @@ fn place_of(index: usize) -> u16
     ensures { result ≡ index + 1 }
 {
     index as u16 + 1
+}
+
+// The first answer to the indices from `start` on and below `end`. A loop over indices, since docs/DECISIONS.md
+// fixes that form for the search of a cover.
+fn first_from<T, F: Fn(usize) -> Option<T>>(start: usize, end: usize, answer: F) -> Option<T>
+    requires asks { (k : ℕ) → k < end → F.pre answer k }
+    ensures { (f : ℕ → Option _) → ((k : ℕ) (o : _) → k < end → F.post answer k o → o ≡ f k) → result ≡ first f start (end - start) }
+{
+    for k in start..end {
+        if let Some(found) = answer(k) {
+            return Some(found);
+        }
+    }
+    None
 }
 
 // Pairs that are to be listed, no more than a list has, for a crew of so many processes.
@@ -68,18 +82,16 @@ impl Candidates<'_> {
     }
 
     // The least index of a third pair, from the second's on, that covers the crew with the two at `i` and `j`.
-    // The three searches are loops over indices, since docs/DECISIONS.md fixes that form for them.
     fn third_cover(&self, i: usize, j: usize) -> Option<(usize, usize, usize)>
         requires first { i < length self.now.pairs.now }
         requires second { j < length self.now.pairs.now }
         ensures { result ≡ third_from self.now.processes self.now.pairs.now i j }
     {
-        for k in j..self.pairs.len() {
-            if FaultPair::cover(self.processes, self.pairs[i], self.pairs[j], self.pairs[k]) {
-                return Some((i, j, k));
-            }
-        }
-        None
+        first_from(j, self.pairs.len(), |k| {
+            FaultPair::cover(self.processes, self.pairs[i], self.pairs[j], self.pairs[k]).then_some(
+                (i, j, k),
+            )
+        })
     }
 
     // The same with the least second pair, from the first's on.
@@ -87,24 +99,14 @@ impl Candidates<'_> {
         requires { i < length self.now.pairs.now }
         ensures { result ≡ second_from self.now.processes self.now.pairs.now i }
     {
-        for j in i..self.pairs.len() {
-            if let Some(found) = self.third_cover(i, j) {
-                return Some(found);
-            }
-        }
-        None
+        first_from(i, self.pairs.len(), |j| self.third_cover(i, j))
     }
 
     // The least three indices of pairs that cover the crew: the smallest first, then the second, then the third.
     fn first_cover(&self) -> Option<(usize, usize, usize)>
         ensures { result ≡ least_cover self.now.processes self.now.pairs.now }
     {
-        for i in 0..self.pairs.len() {
-            if let Some(found) = self.second_cover(i) {
-                return Some(found);
-            }
-        }
-        None
+        first_from(0, self.pairs.len(), |i| self.second_cover(i))
     }
 
     // That no three of them cover the crew.
