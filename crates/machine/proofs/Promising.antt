@@ -1,5 +1,5 @@
 -- The promise: from a log of calls to a history that keeps the schedule, and from there by the agreement theorem.
-use Rattle.std.proofs.Common.{◌≡◌, ℕ, zero, suc, ◌+◌, ◌<◌, ◌≤◌, Bool, true, false, cond, eqb, List, [], ◌∷◌, Some, None, Option, sym, refl, ap, ◌∙◌, subst, inl, inr, ⊎_elim, arith}
+use Rattle.std.proofs.Common.{Ok, ◌≡◌, ℕ, zero, suc, ◌+◌, ◌<◌, ◌≤◌, Bool, true, false, cond, eqb, List, [], ◌∷◌, Some, None, Option, sym, refl, ap, ◌∙◌, subst, inl, inr, ⊎_elim, arith}
 use Rattle.std.proofs.lemmas.Bool.{cases_Bool, cases_eq, cond-true, cond-false, and_parts, not-true, eq-eqb, ne_eqb, true≢false}
 use Rattle.sets.specs.Sets.{has, limit}
 use Rattle.history.specs.Protocols.{History, state}
@@ -13,7 +13,6 @@ use Rattle.agreement.proofs.Agreeing.{agreement, validity}
 use Rattle.agreement.proofs.Rows.{read_or}
 use Rattle.machine.specs.Deeds.{Deed, started, spoke, heard, shut, deed_of_reply, deed_of, is_shut, shuts, Did}
 use Rattle.refusal.specs.declared.process.ProcessRefusal.{ProcessRefusal}
-use Rattle.machine.specs.declared.types.Reply.TheVariants as reply
 use Rattle.machine.specs.Machine.{reply_by, is_decided, answered_by, replied, after}
 use Rattle.machine.specs.Promise.{ran, Faithful, Shows, Honest, Message, Course, Started, PromiseKept}
 use Rattle.machine.specs.declared.types.Answer.TheVariants as answer
@@ -64,7 +63,7 @@ module _ (n : ℕ) (held : ℕ → ℕ → Bool) (few : n ≤ limit) (d p : ℕ)
       let deed_is : deed_of p e ≡ deed_of_reply e.call (replied n s e.call) = cond-true (eqb e.who p) _ _ here ∙ ap (deed_of_reply e.call) faithful in
       entry_more e log (after n held s e.call) (deed_of_reply e.call (replied n s e.call)) (cond-true (eqb e.who p) _ _ here) deed_is
       (called n held few p s (journal d p log) (λ k y. Did p k y log) e.call known
-      (λ m b is ok. own m b (deed_is ∙ ap (λ (o : Option ProcessRefusal). deed_of_reply e.call (reply_by o (answered_by n s e.call))) ok ∙ ap (λ (a : Call). deed_of_reply a (reply.Done (answered_by n s a))) is)))
+      (λ m b is ok. own m b (deed_is ∙ ap (λ (o : Option ProcessRefusal). deed_of_reply e.call (reply_by o (answered_by n s e.call))) ok ∙ ap (λ (a : Call). deed_of_reply a (Some (Ok (answered_by n s a)))) is)))
 
   others : (e : Entry) (log : List Entry) → (e.who ≡ p → ⊥) → Knows log → Knows (e ∷ log)
   others e log who known =
