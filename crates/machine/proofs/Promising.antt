@@ -191,7 +191,7 @@ module _ (n : ℕ) (held : ℕ → ℕ → Bool) (c : Schedule) (log : List Entr
     where
       by : (b : Bool) → is_decided (ran n held p log).stage ≡ b → answer.Verdict (cond b (Some (ran n held p log).preferred) None) ≡ answer.Verdict (Some v) → (is_decided (ran n held p log).stage ≡ true) × ((ran n held p log).preferred ≡ v)
       by true t e = (t, cc)
-      by false t e = absurd (let z : ◌≡◌ {A = ℕ} 0 1 = cc in omega arith)
+      by false t e = absurd (cc)
 
   awake_decided : (p : ℕ) → p < n → Honest n held c log p → is_decided (ran n held p log).stage ≡ true → Awake p
   awake_decided p l honest decided = by (known_of p l honest)
