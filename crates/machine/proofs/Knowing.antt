@@ -60,7 +60,7 @@ module _ (n : ℕ) (held : ℕ → ℕ → Bool) (few : n ≤ limit) (p : ℕ) w
         one_start = λ k m' b'. ⊎_elim (λ x. let e = x.0 in cc) (λ d. absurd (none _ _ d));
         not_own = λ k r w. ⊎_elim (λ x. let e = x.0 in cc) (λ d. absurd (none _ _ d));
         in_row = λ k r w. ⊎_elim (λ x. let e = x.0 in cc) (λ d. absurd (none _ _ d));
-        from_row = λ k r w e ne. absurd (let f = empty k r in cc);
+        from_row = λ k r w e ne. let f = empty k r in cc;
         spoken_value = λ k w. ⊎_elim (λ x. let e = x.0 in cc) (λ d. absurd (none _ _ d));
       }
 
@@ -70,7 +70,7 @@ module _ (n : ℕ) (held : ℕ → ℕ → Bool) (few : n ≤ limit) (p : ℕ) w
   said_preferred s w e = by (muted n s s.number) e
     where
       by : (b : Bool) → cond b None (Some s.preferred) ≡ Some w → w ≡ s.preferred
-      by true e = absurd (cc)
+      by true e = cc
       by false e = cc
 
   speak_facts : (s : ProcessState) (j : Journal) (D : ℕ → Deed → Type 0) → Tie n held few p s j → Facts j D → Facts (add p (Some (spoke (spoken n s))) j) (And (Some (spoke (spoken n s))) j.rounds D)

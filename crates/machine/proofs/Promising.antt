@@ -114,9 +114,6 @@ module _ (n : ℕ) (held : ℕ → ℕ → Bool) (c : Schedule) (log : List Entr
   known_of : (p : ℕ) → p < n → Honest n held c log p → Knows n held course.few d p log
   known_of p l honest = knows n held course.few d p log (course.faithful p l honest) (λ k m b x. course.kept.numbered p k m b l honest x)
 
-  honest_of : (p k : ℕ) → correct c p k ≡ true → Honest n held c log p
-  honest_of p k e = honest_by c p k e
-
   -- a process with a deed is awake, and so is one that has shut a round
   awake_by : (p k : ℕ) (x : Deed) → p < n → Honest n held c log p → Did p k x log → Awake p
   awake_by p k x l honest did = by (known_of p l honest)
@@ -148,7 +145,7 @@ module _ (n : ℕ) (held : ℕ → ℕ → Bool) (c : Schedule) (log : List Entr
   unfolding past protocol
   kept = record {
     own = λ p k l closed right owed.
-        let a = awake_shut p k l (honest_of p (suc k) right) closed in
+        let a = awake_shut p k l (honest_by c p (suc k) right) closed in
         record {
           came = omega arith;
           running = refl;
@@ -157,13 +154,13 @@ module _ (n : ℕ) (held : ℕ → ℕ → Bool) (c : Schedule) (log : List Entr
     heard = λ p k r m right.
         let msg = message p k r m in
         let x = course.kept.accepted p k r msg right in
-        let f = (awake_shut p k m.receiver (honest_of p (suc k) m.right) m.closed).1 in
-        inl (heard_by p k r x.0 m.sender (honest_of r (suc k) right) x.1 (f.in_row k r x.0 x.2));
+        let f = (awake_shut p k m.receiver (honest_by c p (suc k) m.right) m.closed).1 in
+        inl (heard_by p k r x.0 m.sender (honest_by c r (suc k) right) x.1 (f.in_row k r x.0 x.2));
     last_word = λ p k r m honest now.
-        let f = (awake_shut p k m.receiver (honest_of p (suc k) m.right) m.closed).1 in
+        let f = (awake_shut p k m.receiver (honest_by c p (suc k) m.right) m.closed).1 in
         ⊎_elim inr (λ x. inl (heard_by p k r x.0 m.sender honest (course.kept.last_word p k r x.0 (message p k r m) honest now (f.from_row k r x.0 x.1 m.other)) x.1)) (read_or ((J p).row k r));
     later = λ p k r m honest some few.
-        let f = (awake_shut p k m.receiver (honest_of p (suc k) m.right) m.closed).1 in
+        let f = (awake_shut p k m.receiver (honest_by c p (suc k) m.right) m.closed).1 in
         ⊎_elim (λ e. e) (λ x. absurd (course.kept.later p k r x.0 (message p k r m) honest some few (f.from_row k r x.0 x.1 m.other))) (read_or ((J p).row k r));
   }
     where
@@ -191,7 +188,7 @@ module _ (n : ℕ) (held : ℕ → ℕ → Bool) (c : Schedule) (log : List Entr
     where
       by : (b : Bool) → is_decided (ran n held p log).stage ≡ b → answer.Verdict (cond b (Some (ran n held p log).preferred) None) ≡ answer.Verdict (Some v) → (is_decided (ran n held p log).stage ≡ true) × ((ran n held p log).preferred ≡ v)
       by true t e = (t, cc)
-      by false t e = absurd (cc)
+      by false t e = cc
 
   awake_decided : (p : ℕ) → p < n → Honest n held c log p → is_decided (ran n held p log).stage ≡ true → Awake p
   awake_decided p l honest decided = by (known_of p l honest)
