@@ -1,5 +1,5 @@
 // What one process hears in one round.
-ghost use Rattle.std.specs.Prelude.{◌≡◌, ℕ, ◌<◌, ◌≤◌, Bool};
+ghost use Rattle.std.specs.Prelude.{◌≡◌, ℕ, ◌<◌, ◌≤◌, Bool, bit_or};
 ghost use Rattle.sets.specs.Sets.{limit, mask};
 ghost use Rattle.agreement.specs.Step.{reading, caught as caughts, saying as sayings, holds_saying, most_word};
 ghost use Rattle.process.specs.Rounds.{row_of, round_kind};
@@ -32,16 +32,16 @@ fn passing<F: Fn(u8) -> bool>(count: u8, test: F) -> ProcessSet
     set
 }
 
-// The slots of a round under a rule, and who is caught by them: the processes that were detected before, with
-// those that said nothing that counts.
+// The slots of a round under a rule, the processes that were detected before it, and those that said nothing in it
+// that counts.
 #[derive(Drop)]
 pub(crate) struct Hearing<'a, S: AdversaryStructure> {
     rule: &'a S,
     slots: &'a [Option<u8>],
     kind: Kind,
     detected: ProcessSet,
-    pub(crate) caught: ProcessSet,
-    ghost known: { caught.bits ≡ caughts (S.AdversaryStructure.size rule.now) (most_word (round_kind kind)) (row_of slots.now) detected.bits },
+    silent: ProcessSet,
+    ghost known: { bit_or detected.bits silent.bits ≡ caughts (S.AdversaryStructure.size rule.now) (most_word (round_kind kind)) (row_of slots.now) detected.bits },
 }
 
 impl<'a, S: AdversaryStructure> Hearing<'a, S> {
@@ -66,17 +66,25 @@ impl<'a, S: AdversaryStructure> Hearing<'a, S> {
             slots,
             kind,
             detected,
-            caught: detected.union(silent),
+            silent,
         }
+    }
+
+    // Those that are detected after it: those that were before, and the silent ones.
+    pub(crate) fn caught(&self) -> ProcessSet
+        ensures { result.bits ≡ caughts (S.AdversaryStructure.size self.now.rule.now) (most_word (round_kind self.now.kind)) (row_of self.now.slots.now) self.now.detected.bits }
+    {
+        self.detected.union(self.silent)
     }
 
     // Those that said `word` and are not caught.
     fn saying(&self, word: u8) -> ProcessSet
         ensures { result.bits ≡ sayings (S.AdversaryStructure.size self.now.rule.now) (most_word (round_kind self.now.kind)) (row_of self.now.slots.now) self.now.detected.bits word }
     {
+        let caught = self.caught();
         passing(self.rule.processes(), |position| {
             read_slot(self.slots, self.kind, position) == Some(word)
-                && !self.caught.contains(position + 1)
+                && !caught.contains(position + 1)
         })
     }
 
@@ -86,7 +94,7 @@ impl<'a, S: AdversaryStructure> Hearing<'a, S> {
     {
         self.rule.holds(FaultPair {
             byzantine: self.saying(word),
-            failing: self.caught,
+            failing: self.caught(),
         })
     }
 }

@@ -31,7 +31,7 @@ fn unified<S: AdversaryStructure>(rule: &S, slots: &[Option<u8>], before: Core) 
     };
     Core {
         preferred,
-        detected: heard.caught,
+        detected: heard.caught(),
         ..before
     }
 }
@@ -50,7 +50,7 @@ fn exchanged<S: AdversaryStructure>(rule: &S, slots: &[Option<u8>], before: Core
     };
     Core {
         preferred,
-        detected: heard.caught,
+        detected: heard.caught(),
         follows: !heard.may_lie(NO_VALUE),
     }
 }

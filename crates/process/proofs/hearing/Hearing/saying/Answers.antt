@@ -8,4 +8,4 @@ pub returns : goal.returns
 unfolding saying
 returns g c =
     let s = c.args.self.now in
-    let said = c.passing.ensures (λ r. says c.args.word (reading (most_word (round_kind s.kind)) (row_of s.slots.now r)) && not (has s.caught.bits r)) (λ r b few p. let short : r < limit = omega (arith, (g.met.S.AdversaryStructure.sized s.rule.now).few) in search rules) in search rules
+    let said = c.passing.ensures (λ r. says c.args.word (reading (most_word (round_kind s.kind)) (row_of s.slots.now r)) && not (has c.caught-caught.result.bits r)) (λ r b few p. let short : r < limit = omega (arith, (g.met.S.AdversaryStructure.sized s.rule.now).few) in search rules) in search rules
