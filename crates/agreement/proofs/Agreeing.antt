@@ -3,6 +3,7 @@ use Rattle.std.proofs.Common.{◌≡◌, ℕ, zero, suc, ◌+◌, ◌-◌, ◌*�
 use Rattle.std.proofs.lemmas.Bool.{cases_Bool, cases_eq, cases_lt, and_parts, and_from, or_left, true≢false}
 use Rattle.sets.specs.Sets.{has}
 use Rattle.history.specs.Protocols.{History, state}
+use Rattle.history.proofs.Correct.{honest_by}
 use Rattle.history.specs.Schedules.{Schedule, correct, Through}
 use Rattle.history.proofs.Existence.{runs_exist}
 use Rattle.agreement.specs.Rounds.{clog, rounds_of}
@@ -10,7 +11,7 @@ use Rattle.agreement.specs.Step.{State, Kind, unify, exchange, king, kind_at, ki
 use Rattle.agreement.specs.Theorems.{count, value_after, Course, Finished, Unanimous, Good, correct_count, Agreement, Validity, Persistence, GoodPhaseAgrees, FaultsHalve, PhaseEndsInABit, CoursesExist}
 use Rattle.agreement.proofs.Bounds.{Fine}
 use Rattle.agreement.proofs.Counts.{count_mono, count_same, count_most, count_two, count_round}
-use Rattle.agreement.proofs.Hearing.{at, at_start, honest_of, correct_before, fate, not_both, fine}
+use Rattle.agreement.proofs.Hearing.{at, at_start, correct_before, fate, not_both, fine}
 use Rattle.agreement.proofs.Logs.{clog_is}
 use Rattle.agreement.proofs.Phases as phases
 
@@ -156,7 +157,7 @@ module _ (n : ℕ) (held : ℕ → ℕ → Bool) (h : History) (c : Schedule) (c
       let d = k - suc i in
       let e : 3 * suc i ≡ 3 * i + 3 = omega arith in
       let end : d + suc i ≡ k = omega arith in
-      let honest = honest_of n held h c p 0 (through_end p 0 fp (omega arith)).right in
+      let honest = honest_by c p 0 (through_end p 0 fp (omega arith)).right in
       let u : Unanimous n held h c (3 * suc i) (V p (3 * suc i)) =
       λ r t. subst (λ (x : ℕ). (Through n h c r x → Through n h c p x → V r x ≡ V p x)) (sym e) (good_agrees i g r p) t (through_end p (3 * suc i) fp (omega (arith, all_rounds))) in
       let late : Unanimous n held h c (rounds_of n) (V p (3 * suc i)) =
@@ -177,9 +178,9 @@ module _ (n : ℕ) (held : ℕ → ℕ → Bool) (h : History) (c : Schedule) (c
   keeps_bit : (b : ℕ) → ((r : ℕ) → r < n → has c.byzantine r ≡ false → h.start r ≡ b) → (p : ℕ) → Finished n held h c p → V p (rounds_of n) ≡ b
   unfolding at
   keeps_bit b shared p f =
-      let honest = honest_of n held h c p 0 (through_end p 0 f (omega arith)).right in
+      let honest = honest_by c p 0 (through_end p 0 f (omega arith)).right in
       let few : b ≤ 1 = subst (λ (x : ℕ). x ≤ 1) (shared p f.known honest) (course.bits p f.known honest) in
-      let u : Unanimous n held h c (3 * 0) b = λ r t. (at_start n held h c r).0 ∙ shared r t.known (honest_of n held h c r 0 t.right) in
+      let u : Unanimous n held h c (3 * 0) b = λ r t. (at_start n held h c r).0 ∙ shared r t.known (honest_by c r 0 t.right) in
       let end : clog n * n + 0 ≡ clog n * n = omega arith in
       let late : Unanimous n held h c (rounds_of n) b = subst (λ (x : ℕ). Unanimous n held h c x b) (ap (λ (x : ℕ). 3 * x) end ∙ all_rounds) (persists_on (clog n * n) 0 b few u) in
       late p (through_end p (rounds_of n) f (omega arith))

@@ -44,9 +44,6 @@ module _ (n : ℕ) (held : ℕ → ℕ → Bool) (h : History) (c : Schedule) wh
   abbrev pub Quiet : ℕ → Type 0
   Quiet k = (r : ℕ) → r < n → Honest r → c.last r ≡ suc k → ⊥
 
-  pub honest_of : (r k : ℕ) → correct c r k ≡ true → Honest r
-  honest_of r k e = honest_by c r k e
-
   lasting : (r k : ℕ) → correct c r k ≡ true → (c.last r ≡ 0) ⊎ (k < c.last r)
   lasting r k e = ⊎_elim (λ t. inl (eqb-true (c.last r) 0 t)) (λ t. inr (ltb-true k (c.last r) t)) (or_cases (eqb (c.last r) 0) (ltb k (c.last r)) (and_parts _ _ e).1)
 
@@ -56,7 +53,7 @@ module _ (n : ℕ) (held : ℕ → ℕ → Bool) (h : History) (c : Schedule) wh
 
   -- who is correct after more rounds was so after fewer
   pub correct_before : (r k j : ℕ) → j ≤ k → correct c r k ≡ true → correct c r j ≡ true
-  correct_before r k j few e = correct_from r j (honest_of r k e) (⊎_elim inl (λ l. inr (omega arith)) (lasting r k e))
+  correct_before r k j few e = correct_from r j (honest_by c r k e) (⊎_elim inl (λ l. inr (omega arith)) (lasting r k e))
 
   pub done_before : (p k j : ℕ) → j ≤ k → Done p k → Done p j
   done_before p k j few d = record { known = d.known; closed = omega (arith, d.closed); right = correct_before p k j few d.right }
@@ -113,4 +110,4 @@ module _ (n : ℕ) (held : ℕ → ℕ → Bool) (h : History) (c : Schedule) wh
 
     -- a correct process is heard
     pub hears_correct : (p k r : ℕ) → Done p (suc k) → r < n → Due k r → correct c r (suc k) ≡ true → Got p k r
-    hears_correct p k r d known due e = ⊎_elim (λ g. g) (λ f. absurd (not_both r (suc k) e f.1)) (hears p k r d known due (honest_of r (suc k) e))
+    hears_correct p k r d known due e = ⊎_elim (λ g. g) (λ f. absurd (not_both r (suc k) e f.1)) (hears p k r d known due (honest_by c r (suc k) e))

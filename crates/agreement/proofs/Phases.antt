@@ -1,12 +1,13 @@
 -- One phase of three rounds: a value that all correct processes prefer stays, and a good phase makes them prefer one.
 use Rattle.std.proofs.Common.{◌≡◌, ℕ, zero, suc, ◌<◌, ◌≤◌, min, Bool, true, false, cond, not, ◌⊎◌, Option, sym, refl, ap, ◌∙◌, subst, inl, inr, ⊎_elim, arith}
-use Rattle.std.proofs.lemmas.Bool.{cases_Bool, cases_eq, cond-true, cond-false, eq-eqb, not_from_true, not-false, true≢false}
+use Rattle.std.proofs.lemmas.Bool.{false_from_ne_true, cases_Bool, cases_eq, cond-true, cond-false, eq-eqb, not_from_true, not-false, true≢false}
 use Rattle.history.specs.Protocols.{History}
+use Rattle.history.proofs.Correct.{honest_by}
 use Rattle.history.specs.Schedules.{Schedule, correct, failing, Keeps}
 use Rattle.adversary.specs.Laws.{Lawful}
 use Rattle.agreement.specs.Step.{State, Kind, unify, exchange, king, kind_of, step_by, due_by, protocol, reading, or_zero, holds_saying, king_of}
 use Rattle.agreement.proofs.Bounds.{Fine, fine_most, step_is}
-use Rattle.agreement.proofs.Hearing.{at, value_at, detected_at, at_next, Done, honest_of, done_before, Quiet, Bits, fine, Got, hears_correct}
+use Rattle.agreement.proofs.Hearing.{at, value_at, detected_at, at_next, Done, done_before, Quiet, Bits, fine, Got, hears_correct}
 use Rattle.agreement.proofs.Pairs.{up_to_two, some_not_held}
 use Rattle.agreement.proofs.Rows.{reading_word}
 use Rattle.agreement.proofs.Voting.{Open, open_unify, open_exchange, liars_held, clash}
@@ -61,9 +62,6 @@ module _ (n : ℕ) (held : ℕ → ℕ → Bool) (h : History) (c : Schedule) (l
     not_all_held : (p : ℕ) → E p 0 ≡ true → E p 1 ≡ true → E p 2 ≡ true → ⊥
     not_all_held p x y z = some_not_held n held laws 2 (h.row p (suc k)) (L p (suc k)) 0 1 2 up_to_two x y z
 
-    not_true_false : (b : Bool) → (b ≡ true → ⊥) → b ≡ false
-    not_true_false b f = ⊎_elim (λ t. absurd (f t)) (λ e. e) (cases_Bool b)
-
     -- a word that no correct process says is held, in the first and in the second round
     unsaid_one : (p x : ℕ) → D p (suc k) → ((r : ℕ) → D r k → V r k ≡ x → ⊥) → C p x ≡ true
     unsaid_one p x d none = liars_held n held h c laws kept bits covered k 1 open_one p x d none
@@ -74,22 +72,22 @@ module _ (n : ℕ) (held : ℕ → ℕ → Bool) (h : History) (c : Schedule) (l
     -- ---- persistence
 
     stays_one : (v : ℕ) → v ≤ 1 → Unanimous k v → Unanimous (suc k) v
-    stays_one zero l u p d = after_one p ∙ cond-true (C p 1) _ _ (unsaid_one p 1 d (λ r e f. absurd (let q = u r e in omega arith)))
+    stays_one zero l u p d = after_one p ∙ cond-true (C p 1) _ _ (unsaid_one p 1 d (λ r e f. omega (arith, u r e)))
     stays_one (suc zero) l u p d =
-        let held_0 = unsaid_one p 0 d (λ r e f. absurd (let q = u r e in omega arith)) in
-        after_one p ∙ cond-false (C p 1) _ _ (not_true_false (C p 1) (λ t. not_both_held p held_0 t)) ∙ cond-true (C p 0) _ _ held_0
+        let held_0 = unsaid_one p 0 d (λ r e f. omega (arith, u r e)) in
+        after_one p ∙ cond-false (C p 1) _ _ (false_from_ne_true (C p 1) (λ t. not_both_held p held_0 t)) ∙ cond-true (C p 0) _ _ held_0
     stays_one (suc (suc v)) l u p d = absurd (omega arith)
 
     -- in the second round the value stays, and the king is not followed
     stays_two : (v : ℕ) → v ≤ 1 → Unanimous (suc k) v → (p : ℕ) → D p (suc (suc k)) → (V p (suc (suc k)) ≡ v) × ((at n held h c p (suc (suc k))).follows ≡ false)
     stays_two zero l u p d =
-        let held_1 = unsaid_two p 1 d (λ r e f. absurd (let q = u r e in omega arith)) in
-        let held_2 = unsaid_two p 2 d (λ r e f. absurd (let q = u r e in omega arith)) in
-        (value_two p ∙ cond-false (E p 0) _ _ (not_true_false (E p 0) (λ t. not_all_held p t held_1 held_2)), follows_two p ∙ not_from_true (E p 2) held_2)
+        let held_1 = unsaid_two p 1 d (λ r e f. omega (arith, u r e)) in
+        let held_2 = unsaid_two p 2 d (λ r e f. omega (arith, u r e)) in
+        (value_two p ∙ cond-false (E p 0) _ _ (false_from_ne_true (E p 0) (λ t. not_all_held p t held_1 held_2)), follows_two p ∙ not_from_true (E p 2) held_2)
     stays_two (suc zero) l u p d =
-        let held_0 = unsaid_two p 0 d (λ r e f. absurd (let q = u r e in omega arith)) in
-        let held_2 = unsaid_two p 2 d (λ r e f. absurd (let q = u r e in omega arith)) in
-        (value_two p ∙ cond-true (E p 0) _ _ held_0 ∙ cond-false (E p 1) _ _ (not_true_false (E p 1) (λ t. not_all_held p held_0 t held_2)), follows_two p ∙ not_from_true (E p 2) held_2)
+        let held_0 = unsaid_two p 0 d (λ r e f. omega (arith, u r e)) in
+        let held_2 = unsaid_two p 2 d (λ r e f. omega (arith, u r e)) in
+        (value_two p ∙ cond-true (E p 0) _ _ held_0 ∙ cond-false (E p 1) _ _ (false_from_ne_true (E p 1) (λ t. not_all_held p held_0 t held_2)), follows_two p ∙ not_from_true (E p 2) held_2)
     stays_two (suc (suc v)) l u p d = absurd (omega arith)
 
     before : (p j : ℕ) → D p (suc j) → D p j
@@ -108,7 +106,7 @@ module _ (n : ℕ) (held : ℕ → ℕ → Bool) (h : History) (c : Schedule) (l
     module _ (king_known : leader < n) (king_right : correct c leader (suc (suc (suc k))) ≡ true) (quiet_one : Quiet n held h c k) (quiet_two : Quiet n held h c (suc k)) where
       bit_said : (r : ℕ) → D r k → (V r k ≡ 1) ⊎ (V r k ≡ 0)
       bit_said r d =
-          let few = open_one.small r d.known (honest_of n held h c r k d.right) in
+          let few = open_one.small r d.known (honest_by c r k d.right) in
           ⊎_elim inr (⊎_elim inl (λ e. absurd (omega arith))) (up_to_two (V r k) (omega arith))
 
       -- after the first round no two correct processes prefer different bits
@@ -144,7 +142,7 @@ module _ (n : ℕ) (held : ℕ → ℕ → Bool) (h : History) (c : Schedule) (l
 
         said_v_or_2 : (r : ℕ) → D r (suc k) → correct c r (suc (suc k)) ≡ true → (V r (suc k) ≡ 2) ⊎ (V r (suc k) ≡ v)
         said_v_or_2 r dr right =
-            ⊎_elim inr (λ ne. inl (let big = fine_most (at n held h c r (suc k)) (kind_of (suc k)) (fine n held h c laws kept bits r (suc k) dr.known (honest_of n held h c r (suc k) dr.right)) in let no_w : V r (suc k) ≡ w → ⊥ = other_unsaid r dr in last_one (V r (suc k)) big ne no_w)) (cases_eq (V r (suc k)) v)
+            ⊎_elim inr (λ ne. inl (let big = fine_most (at n held h c r (suc k)) (kind_of (suc k)) (fine n held h c laws kept bits r (suc k) dr.known (honest_by c r (suc k) dr.right)) in let no_w : V r (suc k) ≡ w → ⊥ = other_unsaid r dr in last_one (V r (suc k)) big ne no_w)) (cases_eq (V r (suc k)) v)
           where
             last_one : (x : ℕ) → x ≤ 2 → (x ≡ v → ⊥) → (x ≡ w → ⊥) → x ≡ 2
             last_one x l a b = omega arith
@@ -154,7 +152,7 @@ module _ (n : ℕ) (held : ℕ → ℕ → Bool) (h : History) (c : Schedule) (l
         all_prefer two_held q dq =
             prefers v w v_bit w_bit apart (value_two q)
             (unsaid_two q w dq other_unsaid)
-            (not_true_false (E q v) (λ t. clash n held h c laws kept bits covered (suc k) 2 open_two p q 2 v d dq quiet_two said_v_or_2 two_held t))
+            (false_from_ne_true (E q v) (λ t. clash n held h c laws kept bits covered (suc k) 2 open_two p q 2 v d dq quiet_two said_v_or_2 two_held t))
           where
             prefers : (v w : ℕ) → v ≤ 1 → w ≤ 1 → (v ≡ w → ⊥) → V q (suc (suc k)) ≡ cond (E q 0) (cond (E q 1) 2 1) 0 → E q w ≡ true → E q v ≡ false → V q (suc (suc k)) ≡ v
             prefers zero w a b ne e x y = e ∙ cond-false (E q 0) _ _ y
@@ -165,7 +163,7 @@ module _ (n : ℕ) (held : ℕ → ℕ → Bool) (h : History) (c : Schedule) (l
       -- a process that does not follow the king has a bit, and everyone prefers it
       settled : (p : ℕ) → D p (suc (suc k)) → (at n held h c p (suc (suc k))).follows ≡ false → (V p (suc (suc k)) ≤ 1) × ((q : ℕ) → D q (suc (suc k)) → V q (suc (suc k)) ≡ V p (suc (suc k)))
       settled p d e =
-          let honest = honest_of n held h c p (suc (suc k)) d.right in
+          let honest = honest_by c p (suc (suc k)) d.right in
           let few = (subst (λ (q : Kind). Fine q (at n held h c p (suc (suc k)))) three (fine n held h c laws kept bits p (suc (suc k)) d.known honest)).1 e in
           let two_held = not-false (E p 2) (sym (follows_two p) ∙ e) in
           (few, by (V p (suc (suc k))) refl few two_held)
@@ -193,7 +191,7 @@ module _ (n : ℕ) (held : ℕ → ℕ → Bool) (h : History) (c : Schedule) (l
       king_value : (p : ℕ) → D p (suc (suc (suc k))) → (at n held h c p (suc (suc k))).follows ≡ true → V p (suc (suc (suc k))) ≡ min 1 (V leader (suc (suc k)))
       king_value p d e =
           let g = king_heard p d in
-          let honest = honest_of n held h c leader (suc (suc (suc k))) king_right in
+          let honest = honest_by c leader (suc (suc (suc k))) king_right in
           let small = fine_most (at n held h c leader (suc (suc k))) (kind_of (suc (suc k))) (fine n held h c laws kept bits leader (suc (suc k)) king_known honest) in
           after_three p ∙ cond-true (at n held h c p (suc (suc k))).follows _ _ e ∙ ap (λ (o : Option ℕ). min 1 (or_zero o)) (ap (reading 2) g.word ∙ reading_word 2 (V leader (suc (suc k))) small)
 

@@ -12,15 +12,15 @@ reading_word most w h = cond-true (leb w most) _ _ (le-leb w most h)
 
 -- what is read was said, and counts
 pub reading_from : (most w : ℕ) (o : Option ℕ) → reading most o ≡ Some w → (o ≡ Some w) × (w ≤ most)
-reading_from most w None e = absurd (let z : ◌≡◌ {A = ℕ} 0 1 = cc in omega arith)
+reading_from most w None e = cc
 reading_from most w (Some x) e = by (leb x most) refl e
   where
     by : (b : Bool) → leb x most ≡ b → cond b (Some x) None ≡ Some w → (Some x ≡ Some w) × (w ≤ most)
     by true t e = let same : x ≡ w = cc in (e, omega (arith, leb-true x most t))
-    by false t e = absurd (let z : ◌≡◌ {A = ℕ} 0 1 = cc in omega arith)
+    by false t e = cc
 
 says_word : (w : ℕ) (o : Option ℕ) → o ≡ Some w → says w o ≡ true
-says_word w None e = absurd (let z : ◌≡◌ {A = ℕ} 0 1 = cc in omega arith)
+says_word w None e = cc
 says_word w (Some x) e = eq-eqb x w (cc)
 
 says_from : (w : ℕ) (o : Option ℕ) → says w o ≡ true → o ≡ Some w

@@ -1,15 +1,16 @@
 -- A round in which everybody speaks: who is detected, and which words cannot all come from faulty processes.
-use Rattle.std.proofs.Common.{◌≡◌, ℕ, zero, suc, ◌<◌, ◌≤◌, Bool, true, false, not, ltb, ◌⊎◌, Some, sym, ap, ◌∙◌, subst, inl, inr, ⊎_elim, arith}
+use Rattle.std.proofs.Common.{refl, Option, ◌≡◌, ℕ, zero, suc, ◌<◌, ◌≤◌, Bool, true, false, not, ltb, ◌⊎◌, Some, sym, ap, ◌∙◌, subst, inl, inr, ⊎_elim, arith}
 use Rattle.std.proofs.lemmas.Bool.{cases_Bool, and_from, not_from_false, lt-ltb, true≢false}
 use Rattle.sets.specs.Meaning.{by_first, by_second, by_third, by_all}
 use Rattle.sets.specs.Sets.{has}
 use Rattle.sets.proofs.Masks.{has_none, has_mask}
 use Rattle.history.specs.Protocols.{History}
+use Rattle.history.proofs.Correct.{honest_by}
 use Rattle.history.specs.Schedules.{Schedule, correct, failing, Keeps}
 use Rattle.adversary.specs.Laws.{Lawful}
-use Rattle.agreement.specs.Step.{State, Kind, unify, exchange, king, kind_of, due_by, protocol, reading, caught, saying, holds_saying}
+use Rattle.agreement.specs.Step.{State, Kind, unify, exchange, king, kind_of, step_by, due_by, protocol, reading, caught, saying, holds_saying}
 use Rattle.agreement.proofs.Bounds.{Next, to_exchange, to_king, to_unify, next_kind, Fine, step_is}
-use Rattle.agreement.proofs.Hearing.{at, value_at, detected_at, at_next, at_start, Done, Honest, Failed, honest_of, done_before, fate, not_both, Quiet, Bits, fine, Due, Got, hears, hears_correct}
+use Rattle.agreement.proofs.Hearing.{at, value_at, detected_at, at_next, at_start, Done, Honest, Failed, done_before, fate, not_both, Quiet, Bits, fine, Due, Got, hears, hears_correct}
 use Rattle.agreement.proofs.Pairs.{held_within, no_cover}
 use Rattle.agreement.proofs.Rows.{reading_word, caught_from, caught_silent, saying_in, saying_from}
 
@@ -26,19 +27,20 @@ module _ (n : ℕ) (held : ℕ → ℕ → Bool) (h : History) (c : Schedule) (l
   abbrev L : ℕ → ℕ → ℕ
   L p k = detected_at n held h c p k
 
-  pub open_unify : (k : ℕ) → kind_of k ≡ unify → Open k 1
-  open_unify k e = record {
-    due = λ r. ap (λ (q : Kind). due_by n held q k r) e;
-    small = λ r known honest. subst (λ (q : Kind). Fine q (at n held h c r k)) e (fine n held h c laws kept bits r k known honest);
-    catches = λ p. ap (λ (s : State). s.detected) (at_next n held h c p k ∙ step_is n held k unify (h.row p k) (at n held h c p k) e);
+  -- a round is such a one by its kind
+  open_by : (k : ℕ) (q : Kind) (most : ℕ) → kind_of k ≡ q → ((r : ℕ) → due_by n held q k r ≡ true) → ((s : State) → Fine q s → s.preferred ≤ most)
+      → ((row : ℕ → Option ℕ) (s : State) → (step_by n held q k row s).detected ≡ caught n most row s.detected) → Open k most
+  open_by k q most e owed small catches = record {
+    due = λ r. ap (λ (x : Kind). due_by n held x k r) e ∙ owed r;
+    small = λ r known honest. small (at n held h c r k) (subst (λ (x : Kind). Fine x (at n held h c r k)) e (fine n held h c laws kept bits r k known honest));
+    catches = λ p. ap (λ (s : State). s.detected) (at_next n held h c p k ∙ step_is n held k q (h.row p k) (at n held h c p k) e) ∙ catches (h.row p k) (at n held h c p k);
   }
 
+  pub open_unify : (k : ℕ) → kind_of k ≡ unify → Open k 1
+  open_unify k e = open_by k unify 1 e (λ r. refl) (λ s f. f) (λ row s. refl)
+
   pub open_exchange : (k : ℕ) → kind_of k ≡ exchange → Open k 2
-  open_exchange k e = record {
-    due = λ r. ap (λ (q : Kind). due_by n held q k r) e;
-    small = λ r known honest. subst (λ (q : Kind). Fine q (at n held h c r k)) e (fine n held h c laws kept bits r k known honest);
-    catches = λ p. ap (λ (s : State). s.detected) (at_next n held h c p k ∙ step_is n held k exchange (h.row p k) (at n held h c p k) e);
-  }
+  open_exchange k e = open_by k exchange 2 e (λ r. refl) (λ s f. f) (λ row s. refl)
 
   -- p has detected none but Byzantine processes and those that have failed
   abbrev Sound : ℕ → ℕ → Type 0
@@ -52,7 +54,7 @@ module _ (n : ℕ) (held : ℕ → ℕ → Bool) (h : History) (c : Schedule) (l
         s.0,
         ⊎_elim inl
             (λ honest. ⊎_elim
-            (λ g. absurd (let w : reading most (h.row p k r) ≡ Some (V r k) = ap (reading most) g.word ∙ reading_word most (V r k) (o.small r s.0 honest) in let z : ◌≡◌ {A = ℕ} 0 1 = cc s.1 in omega arith))
+            (λ g. absurd (let w : reading most (h.row p k r) ≡ Some (V r k) = ap (reading most) g.word ∙ reading_word most (V r k) (o.small r s.0 honest) in cc s.1))
             (λ f. inr f.1)
             (hears n held h c laws kept bits p k r d s.0 (o.due r) honest))
             (cases_Bool (has c.byzantine r)),
@@ -93,7 +95,7 @@ module _ (n : ℕ) (held : ℕ → ℕ → Bool) (h : History) (c : Schedule) (l
         ⊎_elim (λ b. b)
         (λ honest. ⊎_elim
         (λ g. absurd (none s g.sender (some_word p s x t.said g)))
-        (λ f. absurd (let q = f.0 in let z : ◌≡◌ {A = ℕ} 0 1 = cc t.said in omega arith))
+        (λ f. absurd (let q = f.0 in cc t.said))
         (hears n held h c laws kept bits p k s d t.known (o.due s) honest))
         (cases_Bool (has c.byzantine s)))
         (λ s e.
@@ -104,7 +106,7 @@ module _ (n : ℕ) (held : ℕ → ℕ → Bool) (h : History) (c : Schedule) (l
     free : (p r : ℕ) → Done n held h c p (suc k) → correct c r (suc k) ≡ true → has (caught n most (h.row p k) (L p k)) r ≡ false
     free p r d right =
         ⊎_elim
-        (λ e. absurd (⊎_elim (λ b. true≢false (sym b ∙ honest_of n held h c r (suc k) right)) (not_both n held h c r (suc k) right) (sound p (suc k) d r (ap (λ m. has m r) (o.catches p) ∙ e)).1))
+        (λ e. absurd (⊎_elim (λ b. true≢false (sym b ∙ honest_by c r (suc k) right)) (not_both n held h c r (suc k) right) (sound p (suc k) d r (ap (λ m. has m r) (o.catches p) ∙ e)).1))
         (λ e. e)
         (cases_Bool (has (caught n most (h.row p k) (L p k)) r))
 
@@ -113,7 +115,7 @@ module _ (n : ℕ) (held : ℕ → ℕ → Bool) (h : History) (c : Schedule) (l
     counted p r d known right =
         let g = hears_correct n held h c laws kept bits p k r d known (o.due r) right in
         saying_in n most (h.row p k) (L p k) (V r k) r known
-        (ap (reading most) g.word ∙ reading_word most (V r k) (o.small r known (honest_of n held h c r (suc k) right)))
+        (ap (reading most) g.word ∙ reading_word most (V r k) (o.small r known (honest_by c r (suc k) right)))
         (free p r d right)
 
     -- who failed before is detected by everyone

@@ -109,9 +109,6 @@ module _ {S : Type 0} (a : Protocol S) (start : ℕ → ℕ) (c : Schedule) (lie
   unfolding going.hears
   byzantine_says p k r s e = cond-true (has c.byzantine r) _ _ e
 
-  honest_of : (r k : ℕ) → correct c r k ≡ true → has c.byzantine r ≡ false
-  honest_of r k e = honest_by c r k e
-
   said_running : (k : ℕ) (s : S) → a.over s ≡ false → said k s ≡ Some (a.word k s)
   unfolding going.said
   said_running k s e = cond-false (a.over s) _ _ e
@@ -144,8 +141,8 @@ module _ {S : Type 0} (a : Protocol S) (start : ℕ → ℕ) (c : Schedule) (lie
     unfolding going.run
     keeps = record {
       own = λ p k known closed right owed.
-          spoken p k p closed (shut_running p rounds k closed) (hears_correct p k p (states k p) (honest_of p (suc k) right) right);
-      heard = λ p k r m right. heard_or_over p k r m.closed (hears_correct p k r (states k r) (honest_of r (suc k) right) right);
+          spoken p k p closed (shut_running p rounds k closed) (hears_correct p k p (states k p) (honest_by c p (suc k) right) right);
+      heard = λ p k r m right. heard_or_over p k r m.closed (hears_correct p k r (states k r) (honest_by c r (suc k) right) right);
       last_word = λ p k r m honest e. lost_or p k r m.closed honest e (lost k r p) refl;
       later = λ p k r m honest some few. hears_later p k r (states k r) honest some few;
     }

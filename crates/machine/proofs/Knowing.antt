@@ -36,15 +36,15 @@ module _ (n : ℕ) (held : ℕ → ℕ → Bool) (few : n ≤ limit) (p : ℕ) w
 
   -- an entry that is no deed of the process changes nothing
   pub idle : (s : ProcessState) (j : Journal) (D : ℕ → Deed → Type 0) → Known s j D → Known s j (And None j.rounds D)
-  idle s j D (asleep a b c none) = asleep a b c (λ k d. ⊎_elim (λ x. let e = x.0 in let z : ◌≡◌ {A = ℕ} 0 1 = cc in omega arith) (none k d))
+  idle s j D (asleep a b c none) = asleep a b c (λ k d. ⊎_elim (λ x. let e = x.0 in cc) (none k d))
   idle s j D (awake t f) = awake t record {
     bit_small = f.bit_small;
     begun = (f.begun.0, inr f.begun.1);
-    one_start = λ k m b. ⊎_elim (λ x. absurd (let e = x.0 in let z : ◌≡◌ {A = ℕ} 0 1 = cc in omega arith)) (f.one_start k m b);
-    not_own = λ k r w. ⊎_elim (λ x. absurd (let e = x.0 in let z : ◌≡◌ {A = ℕ} 0 1 = cc in omega arith)) (f.not_own k r w);
-    in_row = λ k r w. ⊎_elim (λ x. absurd (let e = x.0 in let z : ◌≡◌ {A = ℕ} 0 1 = cc in omega arith)) (f.in_row k r w);
+    one_start = λ k m b. ⊎_elim (λ x. let e = x.0 in cc) (f.one_start k m b);
+    not_own = λ k r w. ⊎_elim (λ x. let e = x.0 in cc) (f.not_own k r w);
+    in_row = λ k r w. ⊎_elim (λ x. let e = x.0 in cc) (f.in_row k r w);
     from_row = λ k r w e ne. inr (f.from_row k r w e ne);
-    spoken_value = λ k w. ⊎_elim (λ x. absurd (let e = x.0 in let z : ◌≡◌ {A = ℕ} 0 1 = cc in omega arith)) (f.spoken_value k w);
+    spoken_value = λ k w. ⊎_elim (λ x. let e = x.0 in cc) (f.spoken_value k w);
   }
 
   -- ---- start
@@ -58,10 +58,10 @@ module _ (n : ℕ) (held : ℕ → ℕ → Bool) (few : n ≤ limit) (p : ℕ) w
         bit_small = ltb-false 1 b (when_none (ltb 1 b) _ c.1);
         begun = (m, inl (refl, zero_rounds));
         one_start = λ k m' b'. ⊎_elim (λ x. let e = x.0 in cc) (λ d. absurd (none _ _ d));
-        not_own = λ k r w. ⊎_elim (λ x. absurd (let e = x.0 in let z : ◌≡◌ {A = ℕ} 0 1 = cc in omega arith)) (λ d. absurd (none _ _ d));
-        in_row = λ k r w. ⊎_elim (λ x. absurd (let e = x.0 in let z : ◌≡◌ {A = ℕ} 0 1 = cc in omega arith)) (λ d. absurd (none _ _ d));
-        from_row = λ k r w e ne. absurd (let f = empty k r in let z : ◌≡◌ {A = ℕ} 0 1 = cc in omega arith);
-        spoken_value = λ k w. ⊎_elim (λ x. absurd (let e = x.0 in let z : ◌≡◌ {A = ℕ} 0 1 = cc in omega arith)) (λ d. absurd (none _ _ d));
+        not_own = λ k r w. ⊎_elim (λ x. let e = x.0 in cc) (λ d. absurd (none _ _ d));
+        in_row = λ k r w. ⊎_elim (λ x. let e = x.0 in cc) (λ d. absurd (none _ _ d));
+        from_row = λ k r w e ne. let f = empty k r in cc;
+        spoken_value = λ k w. ⊎_elim (λ x. let e = x.0 in cc) (λ d. absurd (none _ _ d));
       }
 
   -- ---- speak
@@ -70,16 +70,16 @@ module _ (n : ℕ) (held : ℕ → ℕ → Bool) (few : n ≤ limit) (p : ℕ) w
   said_preferred s w e = by (muted n s s.number) e
     where
       by : (b : Bool) → cond b None (Some s.preferred) ≡ Some w → w ≡ s.preferred
-      by true e = absurd (let z : ◌≡◌ {A = ℕ} 0 1 = cc in omega arith)
+      by true e = cc
       by false e = cc
 
   speak_facts : (s : ProcessState) (j : Journal) (D : ℕ → Deed → Type 0) → Tie n held few p s j → Facts j D → Facts (add p (Some (spoke (spoken n s))) j) (And (Some (spoke (spoken n s))) j.rounds D)
   speak_facts s j D t f = record {
     bit_small = f.bit_small;
     begun = (f.begun.0, inr f.begun.1);
-    one_start = λ k m b. ⊎_elim (λ x. absurd (let e = x.0 in let z : ◌≡◌ {A = ℕ} 0 1 = cc in omega arith)) (f.one_start k m b);
-    not_own = λ k r w. ⊎_elim (λ x. absurd (let e = x.0 in let z : ◌≡◌ {A = ℕ} 0 1 = cc in omega arith)) (f.not_own k r w);
-    in_row = λ k r w. ⊎_elim (λ x. absurd (let e = x.0 in let z : ◌≡◌ {A = ℕ} 0 1 = cc in omega arith)) (λ d. kept k r (f.not_own k r w d) ∙ f.in_row k r w d);
+    one_start = λ k m b. ⊎_elim (λ x. let e = x.0 in cc) (f.one_start k m b);
+    not_own = λ k r w. ⊎_elim (λ x. let e = x.0 in cc) (f.not_own k r w);
+    in_row = λ k r w. ⊎_elim (λ x. let e = x.0 in cc) (λ d. kept k r (f.not_own k r w d) ∙ f.in_row k r w d);
     from_row = λ k r w e ne. inr (f.from_row k r w (sym (kept k r ne) ∙ e) ne);
     spoken_value = λ k w. ⊎_elim
         (λ x.
@@ -102,7 +102,7 @@ module _ (n : ℕ) (held : ℕ → ℕ → Bool) (few : n ≤ limit) (p : ℕ) w
   hear_facts s j D m w t h f = record {
     bit_small = f.bit_small;
     begun = (f.begun.0, inr f.begun.1);
-    one_start = λ k m' b. ⊎_elim (λ x. absurd (let e = x.0 in let z : ◌≡◌ {A = ℕ} 0 1 = cc in omega arith)) (f.one_start k m' b);
+    one_start = λ k m' b. ⊎_elim (λ x. let e = x.0 in cc) (f.one_start k m' b);
     not_own = λ k r x. ⊎_elim (λ y e. h.other (let q : m ≡ suc r = (let u = y.0 in cc) in omega (arith, t.number))) (f.not_own k r x);
     in_row = λ k r x. ⊎_elim
         (λ y.
@@ -122,7 +122,7 @@ module _ (n : ℕ) (held : ℕ → ℕ → Bool) (few : n ≤ limit) (p : ℕ) w
         (cases_eq (m - 1) r))
         (λ later. inr (f.from_row k r x (sym (apart k r (λ same. absurd (later same))) ∙ e) ne))
         (cases_eq j.rounds k);
-    spoken_value = λ k x. ⊎_elim (λ y. absurd (let e = y.0 in let z : ◌≡◌ {A = ℕ} 0 1 = cc in omega arith))
+    spoken_value = λ k x. ⊎_elim (λ y. let e = y.0 in cc)
         (λ d. let g = f.spoken_value k x d in (g.0, g.1 ∙ ap (λ (y : State). y.preferred) (sym (more_before n held few p j (m - 1) (Some w) k g.0))));
   }
     where
@@ -133,7 +133,7 @@ module _ (n : ℕ) (held : ℕ → ℕ → Bool) (few : n ≤ limit) (p : ℕ) w
       full : {r x : ℕ} → j.row j.rounds r ≡ Some x → m - 1 ≡ r → ⊥
       full {r} {x} e here =
           let g : j.row j.rounds r ≡ None = subst (λ (i : ℕ). j.row j.rounds i ≡ None) here (sym (t.slots (m - 1)) ∙ h.free) in
-          let z : ◌≡◌ {A = ℕ} 0 1 = cc in omega arith
+          cc
 
       apart : (k r : ℕ) → (j.rounds ≡ k → m - 1 ≡ r → ⊥) → put j.row j.rounds (m - 1) (Some w) k r ≡ j.row k r
       apart k r no_clash =
@@ -148,11 +148,11 @@ module _ (n : ℕ) (held : ℕ → ℕ → Bool) (few : n ≤ limit) (p : ℕ) w
   shut_facts j D f = record {
     bit_small = f.bit_small;
     begun = (f.begun.0, inr f.begun.1);
-    one_start = λ k m b. ⊎_elim (λ x. absurd (let e = x.0 in let z : ◌≡◌ {A = ℕ} 0 1 = cc in omega arith)) (f.one_start k m b);
-    not_own = λ k r w. ⊎_elim (λ x. absurd (let e = x.0 in let z : ◌≡◌ {A = ℕ} 0 1 = cc in omega arith)) (f.not_own k r w);
-    in_row = λ k r w. ⊎_elim (λ x. absurd (let e = x.0 in let z : ◌≡◌ {A = ℕ} 0 1 = cc in omega arith)) (f.in_row k r w);
+    one_start = λ k m b. ⊎_elim (λ x. let e = x.0 in cc) (f.one_start k m b);
+    not_own = λ k r w. ⊎_elim (λ x. let e = x.0 in cc) (f.not_own k r w);
+    in_row = λ k r w. ⊎_elim (λ x. let e = x.0 in cc) (f.in_row k r w);
     from_row = λ k r w e ne. inr (f.from_row k r w e ne);
-    spoken_value = λ k w. ⊎_elim (λ x. absurd (let e = x.0 in let z : ◌≡◌ {A = ℕ} 0 1 = cc in omega arith)) (λ d. let g = f.spoken_value k w d in (omega (arith, g.0), g.1));
+    spoken_value = λ k w. ⊎_elim (λ x. let e = x.0 in cc) (λ d. let g = f.spoken_value k w d in (omega (arith, g.0), g.1));
   }
 
   -- ---- any call

@@ -1,5 +1,5 @@
 -- The promise: from a log of calls to a history that keeps the schedule, and from there by the agreement theorem.
-use Rattle.std.proofs.Common.{◌≡◌, ℕ, zero, suc, ◌+◌, ◌<◌, ◌≤◌, Bool, true, false, cond, eqb, List, [], ◌∷◌, Some, None, Option, sym, refl, ap, ◌∙◌, subst, inl, inr, ⊎_elim, arith}
+use Rattle.std.proofs.Common.{Ok, ◌≡◌, ℕ, zero, suc, ◌+◌, ◌<◌, ◌≤◌, Bool, true, false, cond, eqb, List, [], ◌∷◌, Some, None, Option, sym, refl, ap, ◌∙◌, subst, inl, inr, ⊎_elim, arith}
 use Rattle.std.proofs.lemmas.Bool.{cases_Bool, cases_eq, cond-true, cond-false, and_parts, not-true, eq-eqb, ne_eqb, true≢false}
 use Rattle.sets.specs.Sets.{has, limit}
 use Rattle.history.specs.Protocols.{History, state}
@@ -13,7 +13,6 @@ use Rattle.agreement.proofs.Agreeing.{agreement, validity}
 use Rattle.agreement.proofs.Rows.{read_or}
 use Rattle.machine.specs.Deeds.{Deed, started, spoke, heard, shut, deed_of_reply, deed_of, is_shut, shuts, Did}
 use Rattle.refusal.specs.declared.process.ProcessRefusal.{ProcessRefusal}
-use Rattle.machine.specs.declared.types.Reply.TheVariants as reply
 use Rattle.machine.specs.Machine.{reply_by, is_decided, answered_by, replied, after}
 use Rattle.machine.specs.Promise.{ran, Faithful, Shows, Honest, Message, Course, Started, PromiseKept}
 use Rattle.machine.specs.declared.types.Answer.TheVariants as answer
@@ -64,7 +63,7 @@ module _ (n : ℕ) (held : ℕ → ℕ → Bool) (few : n ≤ limit) (d p : ℕ)
       let deed_is : deed_of p e ≡ deed_of_reply e.call (replied n s e.call) = cond-true (eqb e.who p) _ _ here ∙ ap (deed_of_reply e.call) faithful in
       entry_more e log (after n held s e.call) (deed_of_reply e.call (replied n s e.call)) (cond-true (eqb e.who p) _ _ here) deed_is
       (called n held few p s (journal d p log) (λ k y. Did p k y log) e.call known
-      (λ m b is ok. own m b (deed_is ∙ ap (λ (o : Option ProcessRefusal). deed_of_reply e.call (reply_by o (answered_by n s e.call))) ok ∙ ap (λ (a : Call). deed_of_reply a (reply.Done (answered_by n s a))) is)))
+      (λ m b is ok. own m b (deed_is ∙ ap (λ (o : Option ProcessRefusal). deed_of_reply e.call (reply_by o (answered_by n s e.call))) ok ∙ ap (λ (a : Call). deed_of_reply a (Some (Ok (answered_by n s a)))) is)))
 
   others : (e : Entry) (log : List Entry) → (e.who ≡ p → ⊥) → Knows log → Knows (e ∷ log)
   others e log who known =
@@ -115,9 +114,6 @@ module _ (n : ℕ) (held : ℕ → ℕ → Bool) (c : Schedule) (log : List Entr
   known_of : (p : ℕ) → p < n → Honest n held c log p → Knows n held course.few d p log
   known_of p l honest = knows n held course.few d p log (course.faithful p l honest) (λ k m b x. course.kept.numbered p k m b l honest x)
 
-  honest_of : (p k : ℕ) → correct c p k ≡ true → Honest n held c log p
-  honest_of p k e = honest_by c p k e
-
   -- a process with a deed is awake, and so is one that has shut a round
   awake_by : (p k : ℕ) (x : Deed) → p < n → Honest n held c log p → Did p k x log → Awake p
   awake_by p k x l honest did = by (known_of p l honest)
@@ -149,7 +145,7 @@ module _ (n : ℕ) (held : ℕ → ℕ → Bool) (c : Schedule) (log : List Entr
   unfolding past protocol
   kept = record {
     own = λ p k l closed right owed.
-        let a = awake_shut p k l (honest_of p (suc k) right) closed in
+        let a = awake_shut p k l (honest_by c p (suc k) right) closed in
         record {
           came = omega arith;
           running = refl;
@@ -158,13 +154,13 @@ module _ (n : ℕ) (held : ℕ → ℕ → Bool) (c : Schedule) (log : List Entr
     heard = λ p k r m right.
         let msg = message p k r m in
         let x = course.kept.accepted p k r msg right in
-        let f = (awake_shut p k m.receiver (honest_of p (suc k) m.right) m.closed).1 in
-        inl (heard_by p k r x.0 m.sender (honest_of r (suc k) right) x.1 (f.in_row k r x.0 x.2));
+        let f = (awake_shut p k m.receiver (honest_by c p (suc k) m.right) m.closed).1 in
+        inl (heard_by p k r x.0 m.sender (honest_by c r (suc k) right) x.1 (f.in_row k r x.0 x.2));
     last_word = λ p k r m honest now.
-        let f = (awake_shut p k m.receiver (honest_of p (suc k) m.right) m.closed).1 in
+        let f = (awake_shut p k m.receiver (honest_by c p (suc k) m.right) m.closed).1 in
         ⊎_elim inr (λ x. inl (heard_by p k r x.0 m.sender honest (course.kept.last_word p k r x.0 (message p k r m) honest now (f.from_row k r x.0 x.1 m.other)) x.1)) (read_or ((J p).row k r));
     later = λ p k r m honest some few.
-        let f = (awake_shut p k m.receiver (honest_of p (suc k) m.right) m.closed).1 in
+        let f = (awake_shut p k m.receiver (honest_by c p (suc k) m.right) m.closed).1 in
         ⊎_elim (λ e. e) (λ x. absurd (course.kept.later p k r x.0 (message p k r m) honest some few (f.from_row k r x.0 x.1 m.other))) (read_or ((J p).row k r));
   }
     where
@@ -192,7 +188,7 @@ module _ (n : ℕ) (held : ℕ → ℕ → Bool) (c : Schedule) (log : List Entr
     where
       by : (b : Bool) → is_decided (ran n held p log).stage ≡ b → answer.Verdict (cond b (Some (ran n held p log).preferred) None) ≡ answer.Verdict (Some v) → (is_decided (ran n held p log).stage ≡ true) × ((ran n held p log).preferred ≡ v)
       by true t e = (t, cc)
-      by false t e = absurd (let z : ◌≡◌ {A = ℕ} 0 1 = cc in omega arith)
+      by false t e = cc
 
   awake_decided : (p : ℕ) → p < n → Honest n held c log p → is_decided (ran n held p log).stage ≡ true → Awake p
   awake_decided p l honest decided = by (known_of p l honest)

@@ -5,4 +5,4 @@ mod promise;
 mod types;
 
 pub use promise::promise_is_kept;
-pub use types::{Answer, Call, Entry, ProcessState, Reply, Report, Stage};
+pub use types::{Answer, Call, Entry, ProcessState, Reply, Report, SLOTS, Stage};

@@ -1,9 +1,12 @@
 // The state of one process, the six calls on it, and what they answer.
 use refusal::ProcessRefusal;
-use sets::ProcessSet;
+use sets::{MAX_PROCESSES, ProcessSet};
+
+// A slot for each process that there may be.
+pub const SLOTS: usize = MAX_PROCESSES as usize;
 
 // What a call may do now.
-#[derive(Clone, Copy)]
+#[derive(Clone, Copy, Debug, PartialEq, Eq)]
 pub enum Stage {
     // Not started.
     Resting,
@@ -25,10 +28,10 @@ pub struct ProcessState {
     pub omissions: u16,
     pub round: u16,
     pub follows: bool,
-    pub inbox: [Option<u8>; 16],
+    pub inbox: [Option<u8>; SLOTS],
 }
 
-#[derive(Clone, Copy)]
+#[derive(Clone, Copy, Debug, PartialEq, Eq)]
 pub enum Call {
     Start { number: u8, bit: u8 },
     Speak,
@@ -58,14 +61,8 @@ pub enum Answer {
     Standing(Option<Report>),
 }
 
-// What comes of a call in a list of calls.
-#[derive(Clone, Copy)]
-pub enum Reply {
-    // There is no such process.
-    Absent,
-    Refused(ProcessRefusal),
-    Done(Answer),
-}
+// What comes of a call in a list of calls: nothing where there is no such process.
+pub type Reply = Option<Result<Answer, ProcessRefusal>>;
 
 // One call in a list: on which process, counted from 0, and what came of it.
 #[derive(Clone, Copy)]
