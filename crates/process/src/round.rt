@@ -77,6 +77,7 @@ fn king<S: AdversaryStructure>(rule: &S, shut: u16) -> u8
 }
 
 // The step of the round after `shut` rounds, on the words in the slots.
+#[tactic(auto, unfolding(agreement::specs::Step::step))]
 pub fn step<S: AdversaryStructure>(rule: &S, shut: u16, slots: &[Option<u8>], before: Core) -> Core
     ensures { state_of result ≡ steps (S.AdversaryStructure.size rule.now) (S.AdversaryStructure.holding rule.now) shut (row_of slots.now) (state_of before) }
 {
