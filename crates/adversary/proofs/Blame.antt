@@ -3,13 +3,13 @@ use Rattle.std.proofs.Common.{◌≡◌, ℕ, suc, ◌-◌, ◌<◌, ◌≤◌, 
 use Rattle.sets.specs.declared.fault_pair.FaultPair.{FaultPair}
 use Rattle.refusal.specs.declared.rule.RuleRefusal.{RuleRefusal}
 use Rattle.refusal.specs.declared.rule.RuleRefusal.TheVariants.{Cover, Processes, PairCount, AboveProcesses, InBothSets}
-use Rattle.adversary.specs.Refusals.{or_else, when, blamed, covers_at, third_from, second_from, least_cover, size_refusal, length_refusal, above, overlaps, pair_refusal, pairs_refusal, list_refusal, Before, Blamed, Coverless}
+use Rattle.adversary.specs.Refusals.{or_else, when, blamed, covers_at, third_from, second_from, least_cover, size_refusal, length_refusal, above, overlaps, pair_refusal, pairs_refusal, list_refusal, most_pairs, Before, Blamed, Coverless, Judged}
 use Rattle.adversary.specs.ListLaws.{when_none, third_empty, second_empty, adopted, coverless}
 use Rattle.adversary.specs.Search.{first_is}
 
 when_some : {X : Type 0} (b : Bool) (x y : X) → when b x ≡ Some y → (b ≡ true) × (x ≡ y)
 when_some true x y e = (refl, cc)
-when_some false x y e = absurd (let z : ◌≡◌ {A = ℕ} 0 1 = cc in omega arith)
+when_some false x y e = absurd cc
 
 -- the search finds three indices in order that cover, and none before them
 record Found (n : ℕ) (ps : List FaultPair) (i j k : ℕ) : Type 0 where
@@ -43,6 +43,12 @@ found n ps t e =
     } in
     subst (λ (x : ℕ × ℕ × ℕ). Found n ps x.0 x.1 x.2) told.1 here
 
+-- so its indices are those of places in a list
+pub places : (n : ℕ) (ps : List FaultPair) (t : ℕ × ℕ × ℕ) → least_cover n ps ≡ Some t → length ps ≤ most_pairs → (t.0 < most_pairs) × (t.1 < most_pairs) × (t.2 < most_pairs)
+places n ps t e short =
+    let f = found n ps t e in
+    (omega (arith, f.first_second, f.second_third, f.inside), omega (arith, f.second_third, f.inside), omega (arith, f.inside))
+
 -- only the search names three pairs
 or_else_some : {X : Type 0} (x y : Option X) (z : X) → or_else x y ≡ Some z → (x ≡ Some z) ⊎ (y ≡ Some z)
 or_else_some None y z e = inr e
@@ -60,20 +66,20 @@ module _ (i j k : ℕ) where
 
   never_pair : (n m : ℕ) (p : FaultPair) → Never (pair_refusal n m p)
   never_pair n m p =
-      never_or (when (above n p) (AboveProcesses m)) (when (overlaps p) (InBothSets m)) (never_when (above n p) (AboveProcesses m) (λ e. let z : ◌≡◌ {A = ℕ} 0 1 = cc in omega arith)) (never_when (overlaps p) (InBothSets m) (λ e. let z : ◌≡◌ {A = ℕ} 0 1 = cc in omega arith))
+      never_or (when (above n p) (AboveProcesses m)) (when (overlaps p) (InBothSets m)) (never_when (above n p) (AboveProcesses m) (λ e. cc)) (never_when (overlaps p) (InBothSets m) (λ e. cc))
 
   never_pairs : (n m : ℕ) (ps : List FaultPair) → Never (pairs_refusal n m ps)
-  never_pairs n m [] = λ e. let z : ◌≡◌ {A = ℕ} 0 1 = cc in omega arith
+  never_pairs n m [] = λ e. cc
   never_pairs n m (p ∷ ps) = never_or (pair_refusal n m p) (pairs_refusal n (suc m) ps) (never_pair n m p) (never_pairs n (suc m) ps)
 
   blamed_from : (o : Option (ℕ × ℕ × ℕ)) → blamed o ≡ Some (Cover i j k) → (t : ℕ × ℕ × ℕ) × (o ≡ Some t) × (suc t.0 ≡ i) × (suc t.1 ≡ j) × (suc t.2 ≡ k)
-  blamed_from None e = absurd (let z : ◌≡◌ {A = ℕ} 0 1 = cc in omega arith)
+  blamed_from None e = absurd cc
   blamed_from (Some t) e = (t, refl, cc, cc, cc)
 
   from_search : (n : ℕ) (ps : List FaultPair) → list_refusal n ps ≡ Some (Cover i j k) → blamed (least_cover n ps) ≡ Some (Cover i j k)
   from_search n ps e =
-      ⊎_elim (λ x. absurd (never_when _ Processes (λ e. let z : ◌≡◌ {A = ℕ} 0 1 = cc in omega arith) x))
-      (λ e. ⊎_elim (λ x. absurd (never_when _ PairCount (λ e. let z : ◌≡◌ {A = ℕ} 0 1 = cc in omega arith) x))
+      ⊎_elim (λ x. absurd (never_when _ Processes (λ e. cc) x))
+      (λ e. ⊎_elim (λ x. absurd (never_when _ PairCount (λ e. cc) x))
       (λ e. ⊎_elim (λ x. absurd (never_pairs n 1 ps x)) (λ e. e) (or_else_some (pairs_refusal n 1 ps) _ (Cover i j k) e))
       (or_else_some (length_refusal (length ps)) _ (Cover i j k) e))
       (or_else_some (size_refusal n) _ (Cover i j k) e)
@@ -103,3 +109,11 @@ blame n ps i j k e =
 
 pub blameless : (n : ℕ) (ps : List FaultPair) → list_refusal n ps ≡ None → Coverless n ps
 blameless n ps e = coverless n ps (adopted n ps (ap (λ o. not (is_some o)) e)).apart
+
+-- what a refusal says that is the list's
+pub judged : (n : ℕ) (ps : List FaultPair) (o : Option RuleRefusal) → o ≡ list_refusal n ps → Judged o n ps
+judged n ps o e = record {
+  answer = e;
+  blame = λ i j k b. blame n ps i j k (sym e ∙ b);
+  coverless = λ b. blameless n ps (sym e ∙ b);
+}

@@ -16,12 +16,12 @@ unless None e = refl
 unless (Some x) e = absurd (true≢false (sym e))
 
 pub when_none : {X : Type 0} (b : Bool) (x : X) → when b x ≡ None → b ≡ false
-when_none true x e = absurd (let z : ◌≡◌ {A = ℕ} 0 1 = cc in omega arith)
+when_none true x e = absurd cc
 when_none false x e = refl
 
 blamed_none : (o : Option (ℕ × ℕ × ℕ)) → blamed o ≡ None → o ≡ None
 blamed_none None e = refl
-blamed_none (Some t) e = absurd (let z : ◌≡◌ {A = ℕ} 0 1 = cc in omega arith)
+blamed_none (Some t) e = absurd cc
 
 -- n is the number of processes of a crew where 1 does not come
 pub sized : (n : ℕ) → size_refusal n ≡ None → Sized n

@@ -6,7 +6,7 @@ use Rattle.adversary.specs.Refusals.{first, or_else}
 
 pub or_else_none : {X : Type 0} (x y : Option X) → or_else x y ≡ None → (x ≡ None) × (y ≡ None)
 or_else_none None y e = (refl, e)
-or_else_none (Some x) y e = absurd (let z : ◌≡◌ {A = ℕ} 0 1 = cc in omega arith)
+or_else_none (Some x) y e = absurd cc
 
 module _ {X : Type 0} (f : ℕ → Option X) where
   -- at k, with numbers up to m left to try
@@ -15,11 +15,6 @@ module _ {X : Type 0} (f : ℕ → Option X) where
       let c : m - k ≡ suc (m - (k + 1)) = omega arith in
       let n : suc k ≡ k + 1 = omega arith in
       ap (first f k) c ∙ ap (λ s. or_else (f k) (first f s (m - (k + 1)))) n
-
-  pub first_none : (k m : ℕ) → m ≤ k → first f k (m - k) ≡ None
-  first_none k m h =
-      let c : m - k ≡ 0 = omega arith in
-      ap (first f k) c
 
   -- the answer at k, and going on where there is none
   pub first_found : (k m : ℕ) (x : X) → k < m → f k ≡ Some x → first f k (m - k) ≡ Some x
@@ -40,7 +35,7 @@ module _ {X : Type 0} (f : ℕ → Option X) where
 
   -- where it finds something, that is the first
   pub first_is : (c s : ℕ) (x : X) → first f s c ≡ Some x → (k : ℕ) × (s ≤ k) × (k < s + c) × (f k ≡ Some x) × ((m : ℕ) → s ≤ m → m < k → f m ≡ None)
-  first_is zero s x e = absurd (let z : ◌≡◌ {A = ℕ} 0 1 = cc in omega arith)
+  first_is zero s x e = absurd cc
   first_is (suc c) s x e = at (f s) refl e (first_is c (suc s) x)
     where
       at : (o : Option X) → f s ≡ o → or_else o (first f (suc s) c) ≡ Some x → (first f (suc s) c ≡ Some x → (k : ℕ) × (suc s ≤ k) × (k < suc s + c) × (f k ≡ Some x) × ((m : ℕ) → suc s ≤ m → m < k → f m ≡ None)) → (k : ℕ) × (s ≤ k) × (k < s + suc c) × (f k ≡ Some x) × ((m : ℕ) → s ≤ m → m < k → f m ≡ None)

@@ -1,9 +1,9 @@
 // How a pair list is made, checked and asked.
-ghost use Rattle.std.specs.Prelude.{◌≡◌, ℕ, ◌-◌, ◌<◌, ◌≤◌, true, [], ◌∷◌, length, take, IfSome, MatchResult};
+ghost use Rattle.std.specs.Prelude.{◌≡◌, ℕ, ◌+◌, ◌-◌, ◌<◌, ◌≤◌, [], ◌∷◌, length, Option, IfOk, MatchResult};
 ghost use Rattle.std.specs.Result.{result_err};
 ghost use Rattle.sets.specs.Pairs.{byz, fail, pair_of};
 ghost use Rattle.sets.specs.Sets.{limit};
-ghost use Rattle.adversary.specs.Refusals.{answered, size_refusal, pair_refusal, pairs_refusal, third_from, second_from, least_cover, list_refusal, most_pairs, Judged};
+ghost use Rattle.adversary.specs.Refusals.{first, answered, size_refusal, pair_refusal, pairs_refusal, third_from, second_from, least_cover, cover_refusal, list_refusal, most_pairs, Judged};
 ghost use Rattle.adversary.specs.Rules.{listed};
 ghost use Rattle.adversary.specs.Lists.{Has, pairs_of};
 ghost use Rattle.adversary.specs.ListLaws;
@@ -11,6 +11,7 @@ ghost use Rattle.adversary.specs.ListLaws.{adopted, list_lawful};
 
 use crate::pair_list::{MAX_PAIRS, PairList};
 use crate::structure::AdversaryStructure;
+use arrayvec::ArrayVec;
 use refusal::RuleRefusal;
 use sets::{FaultPair, MAX_PROCESSES, ProcessSet};
 
@@ -24,108 +25,129 @@ pub(crate) fn process_count(processes: u16) -> Result<u8, RuleRefusal>
     }
 }
 
-// One pair at a place: all its processes are in the crew, and none is in both sets.
-fn check_pair(count: u8, place: u16, pair: FaultPair) -> Result<(), RuleRefusal>
-    requires { count ≤ limit }
-    ensures { result ≡ answered tt (pair_refusal count place pair) }
+// A place in a list, counted from 1.
+fn place_of(index: usize) -> u16
+    requires { index < most_pairs }
+    ensures { result ≡ index + 1 }
 {
-    let crew = ProcessSet::first(count);
-    if !pair.byzantine.union(pair.failing).is_subset(crew) {
-        return Err(RuleRefusal::AboveProcesses(place));
-    }
-    if !pair.byzantine.intersection(pair.failing).is_empty() {
-        return Err(RuleRefusal::InBothSets(place));
-    }
-    Ok(())
+    index as u16 + 1
 }
 
-// Every pair in order.
-fn check_pairs(count: u8, pairs: &[FaultPair]) -> Result<(), RuleRefusal>
-    requires few { count ≤ limit }
-    requires short { length pairs.now ≤ most_pairs }
-    ensures { result ≡ answered tt (pairs_refusal count 1 pairs.now) }
+// The first answer to the indices from `start` on and below `end`. A loop over indices, since docs/DECISIONS.md
+// fixes that form for the search of a cover.
+fn first_from<T, F: Fn(usize) -> Option<T>>(start: usize, end: usize, answer: F) -> Option<T>
+    requires asks { (k : ℕ) → k < end → F.pre answer k }
+    ensures { (f : ℕ → Option _) → ((k : ℕ) (o : _) → k < end → F.post answer k o → o ≡ f k) → result ≡ first f start (end - start) }
 {
-    let mut place = 0;
-    for pair in pairs {
-        place += 1;
-        check_pair(count, place, *pair)?;
-    }
-    Ok(())
-}
-
-// The least index of a third pair, from the second's on, that covers the crew with the two at `i` and `j`.
-fn third_cover(count: u8, pairs: &[FaultPair], i: usize, j: usize) -> Option<(usize, usize, usize)>
-    requires first { i < length pairs.now }
-    requires second { j < length pairs.now }
-    ensures value { result ≡ third_from count pairs.now i j }
-    ensures inside { IfSome result (λ t. (t.0 < length pairs.now) × (t.1 < length pairs.now) × (t.2 < length pairs.now)) }
-{
-    for k in j..pairs.len() {
-        if FaultPair::cover(count, pairs[i], pairs[j], pairs[k]) {
-            return Some((i, j, k));
-        }
-    }
-    None
-}
-
-// The same with the least second pair, from the first's on.
-fn second_cover(count: u8, pairs: &[FaultPair], i: usize) -> Option<(usize, usize, usize)>
-    requires { i < length pairs.now }
-    ensures value { result ≡ second_from count pairs.now i }
-    ensures inside { IfSome result (λ t. (t.0 < length pairs.now) × (t.1 < length pairs.now) × (t.2 < length pairs.now)) }
-{
-    for j in i..pairs.len() {
-        if let Some(found) = third_cover(count, pairs, i, j) {
+    for k in start..end {
+        if let Some(found) = answer(k) {
             return Some(found);
         }
     }
     None
 }
 
-// The least three indices of pairs that cover the crew: the smallest first, then the second, then the third.
-fn first_cover(count: u8, pairs: &[FaultPair]) -> Option<(usize, usize, usize)>
-    ensures value { result ≡ least_cover count pairs.now }
-    ensures inside { IfSome result (λ t. (t.0 < length pairs.now) × (t.1 < length pairs.now) × (t.2 < length pairs.now)) }
-{
-    for i in 0..pairs.len() {
-        if let Some(found) = second_cover(count, pairs, i) {
-            return Some(found);
-        }
-    }
-    None
+// Pairs that are to be listed, no more than a list has, for a crew of so many processes.
+#[derive(Clone, Copy)]
+struct Candidates<'a> {
+    processes: u8,
+    pairs: &'a [FaultPair],
+    ghost few: { processes ≤ limit },
+    ghost short: { length pairs.now ≤ most_pairs },
 }
 
-// The number of processes where every test is passed.
-fn judge_list(processes: u16, pairs: &[FaultPair]) -> Result<u8, RuleRefusal>
-    ensures value { result ≡ answered processes (list_refusal processes pairs.now) }
-    ensures answer { Judged (result_err result) processes pairs.now }
-{
-    check_list(processes, pairs)
+impl Candidates<'_> {
+    // One pair at a place: all its processes are in the crew, and none is in both sets.
+    fn check_pair(&self, place: u16, pair: FaultPair) -> Result<(), RuleRefusal>
+        ensures { result ≡ answered tt (pair_refusal self.now.processes place pair) }
+    {
+        let crew = ProcessSet::first(self.processes);
+        if !pair.byzantine.union(pair.failing).is_subset(crew) {
+            return Err(RuleRefusal::AboveProcesses(place));
+        }
+        if !pair.byzantine.intersection(pair.failing).is_empty() {
+            return Err(RuleRefusal::InBothSets(place));
+        }
+        Ok(())
+    }
+
+    // Every pair in order.
+    fn check_pairs(&self) -> Result<(), RuleRefusal>
+        ensures { result ≡ answered tt (pairs_refusal self.now.processes 1 self.now.pairs.now) }
+    {
+        for (index, pair) in self.pairs.iter().enumerate() {
+            self.check_pair(place_of(index), *pair)?;
+        }
+        Ok(())
+    }
+
+    // The least index of a third pair, from the second's on, that covers the crew with the two at `i` and `j`.
+    fn third_cover(&self, i: usize, j: usize) -> Option<(usize, usize, usize)>
+        requires first { i < length self.now.pairs.now }
+        requires second { j < length self.now.pairs.now }
+        ensures { result ≡ third_from self.now.processes self.now.pairs.now i j }
+    {
+        first_from(j, self.pairs.len(), |k| {
+            FaultPair::cover(self.processes, self.pairs[i], self.pairs[j], self.pairs[k]).then_some(
+                (i, j, k),
+            )
+        })
+    }
+
+    // The same with the least second pair, from the first's on.
+    fn second_cover(&self, i: usize) -> Option<(usize, usize, usize)>
+        requires { i < length self.now.pairs.now }
+        ensures { result ≡ second_from self.now.processes self.now.pairs.now i }
+    {
+        first_from(i, self.pairs.len(), |j| self.third_cover(i, j))
+    }
+
+    // The least three indices of pairs that cover the crew: the smallest first, then the second, then the third.
+    fn first_cover(&self) -> Option<(usize, usize, usize)>
+        ensures { result ≡ least_cover self.now.processes self.now.pairs.now }
+    {
+        first_from(0, self.pairs.len(), |i| self.second_cover(i))
+    }
+
+    // That no three of them cover the crew.
+    fn check_cover(&self) -> Result<(), RuleRefusal>
+        ensures { result ≡ answered tt (cover_refusal self.now.processes self.now.pairs.now) }
+    {
+        match self.first_cover() {
+            Some((i, j, k)) => Err(RuleRefusal::Cover(place_of(i), place_of(j), place_of(k))),
+            None => Ok(()),
+        }
+    }
 }
 
 // Every test of a list in its order; the number of processes where all are passed.
 fn check_list(processes: u16, pairs: &[FaultPair]) -> Result<u8, RuleRefusal>
     ensures { result ≡ answered processes (list_refusal processes pairs.now) }
 {
-    let count = process_count(processes)?;
+    let processes = process_count(processes)?;
     if pairs.is_empty() || pairs.len() > MAX_PAIRS {
         return Err(RuleRefusal::PairCount);
     }
-    check_pairs(count, pairs)?;
-    match first_cover(count, pairs) {
-        Some((i, j, k)) => Err(RuleRefusal::Cover(i as u16 + 1, j as u16 + 1, k as u16 + 1)),
-        None => Ok(count),
-    }
+    let candidates = Candidates { processes, pairs };
+    candidates.check_pairs()?;
+    candidates.check_cover()?;
+    Ok(processes)
 }
 
-// A table that begins with these pairs.
-fn table_of(pairs: &[FaultPair]) -> [FaultPair; MAX_PAIRS]
-    requires { length pairs.now ≤ most_pairs }
-    ensures { take (length pairs.now) result ≡ pairs.now }
+// The list of these pairs, where every test is passed.
+fn list_of(processes: u16, pairs: &[FaultPair]) -> Result<PairList, RuleRefusal>
+    ensures answer { Judged (result_err result) processes pairs.now }
+    ensures value { IfOk result (λ l. Has l processes pairs.now) }
 {
-    let mut table = [FaultPair::EMPTY; MAX_PAIRS];
-    table[0..pairs.len()].copy_from_slice(pairs);
-    table
+    let processes = check_list(processes, pairs)?;
+    let mut listed = ArrayVec::new();
+    listed
+        .try_extend_from_slice(pairs)
+        .map_err(|_| RuleRefusal::PairCount)?;
+    Ok(PairList {
+        processes,
+        pairs: listed,
+    })
 }
 
 // Whether a pair is contained in one of these.
@@ -145,10 +167,11 @@ impl PairList {
     pub fn new() -> PairList
         ensures { Has result 1 (pair_of 0 0 ∷ []) }
     {
+        let mut pairs = ArrayVec::new();
+        pairs.push(FaultPair::EMPTY);
         PairList {
             processes: 1,
-            len: 1,
-            pairs: [FaultPair::EMPTY; MAX_PAIRS],
+            pairs,
         }
     }
 
@@ -157,12 +180,7 @@ impl PairList {
         ensures answer { Judged (result_err result) processes pairs.now }
         ensures after { MatchResult result (λ _. Has self.new processes pairs.now) (λ _. self.new ≡ self.old) }
     {
-        let count = judge_list(processes, pairs)?;
-        *self = PairList {
-            processes: count,
-            len: pairs.len(),
-            pairs: table_of(pairs),
-        };
+        *self = list_of(processes, pairs)?;
         Ok(())
     }
 }
@@ -181,6 +199,6 @@ impl AdversaryStructure for PairList {
     }
 
     fn holds(&self, pair: FaultPair) -> bool {
-        is_listed(&self.pairs[0..self.len], pair)
+        is_listed(self.pairs.as_slice(), pair)
     }
 }

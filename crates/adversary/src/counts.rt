@@ -27,6 +27,7 @@ impl Threshold {
         if u32::from(total) + 2 * u32::from(byzantine) >= u32::from(count) {
             return Err(RuleRefusal::TotalTooHigh);
         }
+        // Both are below the number of processes, so that the casts keep them.
         Ok(Threshold {
             processes: count,
             total: total as u8,
@@ -60,6 +61,6 @@ impl AdversaryStructure for Threshold {
         let inside = faulty.is_subset(self.crew());
         let few_byzantine = pair.byzantine.len() <= u32::from(self.byzantine);
         let few = faulty.len() <= u32::from(self.total);
-        inside & (few_byzantine & few)
+        inside && few_byzantine && few
     }
 }

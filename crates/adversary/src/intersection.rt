@@ -8,7 +8,7 @@ use crate::structure::AdversaryStructure;
 use sets::FaultPair;
 
 // The processes are those of the first.
-#[derive(Drop)]
+#[derive(Debug, PartialEq, Eq, Drop)]
 pub struct Intersection<P, Q> {
     first: P,
     second: Q,

@@ -1,18 +1,17 @@
 // A rule given by its greatest pairs: it holds exactly what is contained in a listed one.
-ghost use Rattle.std.specs.Prelude.{◌≡◌, ◌≤◌, true, take};
-ghost use Rattle.adversary.specs.Refusals.{adoptable, most_pairs};
+ghost use Rattle.std.specs.Prelude.{◌≡◌, true};
+ghost use Rattle.adversary.specs.Refusals.{adoptable};
 
+use arrayvec::ArrayVec;
 use sets::FaultPair;
 
 // The most pairs that a list has.
 pub const MAX_PAIRS: usize = 64;
 
-// The first `len` entries of the table are listed. The two facts say that they could be adopted.
-#[derive(Drop)]
+// The pairs lie in the list itself, which uses no heap. The fact says that they could be adopted.
+#[derive(Debug, PartialEq, Eq, Drop)]
 pub struct PairList {
     pub(crate) processes: u8,
-    pub(crate) len: usize,
-    pub(crate) pairs: [FaultPair; MAX_PAIRS],
-    ghost fits: { len ≤ most_pairs },
-    ghost lawful: { adoptable processes (take len pairs) ≡ true },
+    pub(crate) pairs: ArrayVec<FaultPair, MAX_PAIRS>,
+    ghost lawful: { adoptable processes pairs.items ≡ true },
 }

@@ -4,7 +4,7 @@ ghost use Rattle.sets.specs.Pairs.{contained, covers, cover_of, byz, fail};
 
 use crate::process_set::{MAX_PROCESSES, ProcessSet};
 
-#[derive(Clone, Copy)]
+#[derive(Clone, Copy, Debug, Default, PartialEq, Eq, Hash)]
 pub struct FaultPair {
     pub byzantine: ProcessSet,
     pub failing: ProcessSet,

@@ -9,7 +9,7 @@ pub const MAX_PROCESSES: u8 = 16;
 // As many bits as there may be processes.
 pub type Mask = u16;
 
-#[derive(Clone, Copy)]
+#[derive(Clone, Copy, Debug, Default, PartialEq, Eq, Hash)]
 pub struct ProcessSet {
     bits: Mask,
 }
@@ -39,26 +39,11 @@ impl ProcessSet {
         })
     }
 
-    // The set with this mask.
-    pub fn from_bits(bits: Mask) -> ProcessSet
-        ensures { result ≡ set_of bits }
-    {
-        ProcessSet { bits }
-    }
-
-    // The set's mask.
-    pub fn bits(self) -> Mask
-        ensures { set_of result ≡ self }
-    {
-        let ProcessSet { bits } = self;
-        bits
-    }
-
     // Whether no process is in the set.
     pub fn is_empty(self) -> bool
         ensures { result ≡ (self.bits == 0) }
     {
-        self.bits == ProcessSet::EMPTY.bits
+        self == ProcessSet::EMPTY
     }
 
     // Whether process `number` is in the set.
@@ -72,10 +57,7 @@ impl ProcessSet {
     pub fn with(self, number: u8) -> ProcessSet
         ensures { result ≡ with_process self number }
     {
-        match ProcessSet::of(number) {
-            Some(one) => self.union(one),
-            None => self,
-        }
+        ProcessSet::of(number).map_or(self, |one| self.union(one))
     }
 
     // The processes of either set.
@@ -108,6 +90,25 @@ impl ProcessSet {
         ensures { result ≡ count_ones self.bits }
     {
         self.bits.count_ones()
+    }
+}
+
+// The set with this mask.
+impl From<Mask> for ProcessSet {
+    ghost from_gives = { λ bits set. set ≡ set_of bits };
+
+    fn from(bits: Mask) -> ProcessSet {
+        ProcessSet { bits }
+    }
+}
+
+// The set's mask.
+impl From<ProcessSet> for Mask {
+    ghost from_gives = { λ set bits. set_of bits ≡ set };
+
+    fn from(set: ProcessSet) -> Mask {
+        let ProcessSet { bits } = set;
+        bits
     }
 }
 
