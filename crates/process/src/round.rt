@@ -10,7 +10,7 @@ use sets::ProcessSet;
 
 // What a process knows between rounds: its preferred value, whom it has detected, and whether it follows the king.
 // The value is a byte and no enum: words come as bytes, and a step may be asked about any.
-#[derive(Clone, Copy)]
+#[derive(Clone, Copy, Debug, PartialEq, Eq)]
 pub struct Core {
     pub preferred: u8,
     pub detected: ProcessSet,
