@@ -115,14 +115,10 @@ module _ (n : ℕ) (held : ℕ → ℕ → Bool) (h : History) (c : Schedule) (l
           clash n held h c laws kept bits covered k 1 open_one p q 1 0 dp dq quiet_one (λ r d right. bit_said r d) (zero_from (C p 1) (C p 0) (sym (after_one p) ∙ zero_p)) (one_from (C q 1) (C q 0) (sym (after_one q) ∙ one_q))
         where
           zero_from : (x y : Bool) → ◌≡◌ {A = ℕ} (cond x 0 (cond y 1 2)) 0 → x ≡ true
-          zero_from true y e = refl
-          zero_from false true e = absurd (omega arith)
-          zero_from false false e = absurd (omega arith)
+          zero_from x y e = grind arith
 
           one_from : (x y : Bool) → ◌≡◌ {A = ℕ} (cond x 0 (cond y 1 2)) 1 → y ≡ true
-          one_from true y e = absurd (omega arith)
-          one_from false true e = refl
-          one_from false false e = absurd (omega arith)
+          one_from x y e = grind arith
 
       -- where one prefers v, no other prefers the other bit
       one_bit : (v w p q : ℕ) → v ≤ 1 → w ≤ 1 → (v ≡ w → ⊥) → D p (suc k) → D q (suc k) → V p (suc k) ≡ v → V q (suc k) ≡ w → ⊥
@@ -172,15 +168,11 @@ module _ (n : ℕ) (held : ℕ → ℕ → Bool) (h : History) (c : Schedule) (l
           by zero z l t q dq = all_prefer p 0 1 (omega arith) (omega arith) (omega arith) d (first_zero (E p 0) (E p 1) (sym (value_two p) ∙ z)) t q dq ∙ sym z
             where
               first_zero : (x y : Bool) → ◌≡◌ {A = ℕ} (cond x (cond y 2 1) 0) 0 → x ≡ false
-              first_zero true true e = absurd (omega arith)
-              first_zero true false e = absurd (omega arith)
-              first_zero false y e = refl
+              first_zero x y e = grind arith
           by (suc zero) z l t q dq = all_prefer p 1 0 (omega arith) (omega arith) (omega arith) d (first_one (E p 0) (E p 1) (sym (value_two p) ∙ z)) t q dq ∙ sym z
             where
               first_one : (x y : Bool) → ◌≡◌ {A = ℕ} (cond x (cond y 2 1) 0) 1 → y ≡ false
-              first_one true true e = absurd (omega arith)
-              first_one true false e = refl
-              first_one false y e = absurd (omega arith)
+              first_one x y e = grind arith
           by (suc (suc v)) z l t q dq = absurd (omega arith)
 
       -- the king is heard by everyone
