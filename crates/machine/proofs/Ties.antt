@@ -14,7 +14,7 @@ use Rattle.machine.specs.Machine.{is_resting, is_due, is_listening, is_decided, 
 use Rattle.machine.specs.declared.types.Call.TheVariants as call
 use Rattle.machine.specs.declared.types.ProcessState.{ProcessState}
 use Rattle.machine.specs.declared.types.Stage.{Stage}
-use Rattle.machine.specs.declared.types.Stage.TheVariants.{Resting, Due, Listening, Decided}
+use Rattle.machine.specs.declared.types.Stage.TheVariants.{Due, Decided}
 use Rattle.machine.proofs.Journals.{Journal, put, put_here, put_other_round, put_other, add, folded, folded_same}
 
 -- an empty inbox
@@ -51,16 +51,10 @@ module _ (n : ℕ) (held : ℕ → ℕ → Bool) (few : n ≤ limit) (p : ℕ) w
 
   -- who is in which stage
   not_due_listening : (t : Stage) → is_listening t ≡ true → is_due t ≡ false
-  not_due_listening Resting e = refl
-  not_due_listening Due e = absurd (true≢false (sym e))
-  not_due_listening Listening e = refl
-  not_due_listening Decided e = refl
+  not_due_listening t e = grind arith
 
   not_decided : (t : Stage) → (is_due t ≡ true) ⊎ (is_listening t ≡ true) → is_decided t ≡ false
-  not_decided Resting e = refl
-  not_decided Due e = refl
-  not_decided Listening e = refl
-  not_decided Decided e = absurd (⊎_elim (λ x. true≢false (sym x)) (λ x. true≢false (sym x)) e)
+  not_decided t e = grind arith
 
   -- where a word is due from it, it is not muted
   not_muted : (s : ProcessState) (k : ℕ) → shut_of s ≡ k → s.number ≡ suc p → DueFrom k → muted n s s.number ≡ false
@@ -157,8 +151,7 @@ module _ (n : ℕ) (held : ℕ → ℕ → Bool) (few : n ≤ limit) (p : ℕ) w
     pub free : slot s (m - 1) ≡ None
 
   no_word : (o : Option ℕ) → is_some o ≡ false → o ≡ None
-  no_word None e = refl
-  no_word (Some x) e = absurd (true≢false e)
+  no_word o e = grind arith
 
   pub hearable : (s : ProcessState) (m i w : ℕ) → refused n s (call.Hear m i w) ≡ None → Hearable s m
   hearable s m i w ok =
