@@ -1,5 +1,5 @@
 -- What is known of a process after any calls: it never started, or its state and its deeds are tied.
-use Rattle.std.proofs.Common.{◌≡◌, ℕ, suc, ◌-◌, ◌≤◌, Bool, true, false, cond, not, ltb, ◌⊎◌, Some, None, Option, sym, refl, ap, ◌∙◌, subst, inl, inr, ⊎_elim, arith}
+use Rattle.std.proofs.Common.{◌≡◌, ℕ, suc, ◌-◌, ◌≤◌, Bool, false, not, ltb, ◌⊎◌, Some, None, Option, sym, refl, ap, ◌∙◌, subst, inl, inr, ⊎_elim, arith}
 use Rattle.std.proofs.lemmas.Bool.{cases_eq, ltb-false, not-false, true≢false}
 use Rattle.sets.specs.Sets.{limit}
 use Rattle.refusal.specs.declared.process.ProcessRefusal.{ProcessRefusal}
@@ -8,7 +8,7 @@ use Rattle.adversary.specs.Search.{or_else_none}
 use Rattle.adversary.specs.ListLaws.{when_none}
 use Rattle.agreement.specs.Step.{State}
 use Rattle.machine.specs.Deeds.{Deed, started, spoke, heard, shut, deed_of_reply}
-use Rattle.machine.specs.Machine.{resting, is_resting, is_due, is_listening, muted, stranger, refused, spoken, answered_by, carried, reply_by, after_by, replied, after}
+use Rattle.machine.specs.Machine.{resting, is_resting, is_due, is_listening, stranger, refused, spoken, answered_by, carried, reply_by, after_by, replied, after}
 use Rattle.machine.specs.declared.types.Call.{Call}
 use Rattle.machine.specs.declared.types.Call.TheVariants as call
 use Rattle.machine.specs.declared.types.ProcessState.{ProcessState}
@@ -64,11 +64,7 @@ module _ (n : ℕ) (held : ℕ → ℕ → Bool) (few : n ≤ limit) (p : ℕ) w
   -- ---- speak
 
   said_preferred : (s : ProcessState) (w : ℕ) → spoken n s ≡ Some w → w ≡ s.preferred
-  said_preferred s w e = by (muted n s s.number) e
-    where
-      by : (b : Bool) → cond b None (Some s.preferred) ≡ Some w → w ≡ s.preferred
-      by true e = cc
-      by false e = cc
+  said_preferred s w e = grind arith
 
   speak_facts : (s : ProcessState) (j : Journal) (D : ℕ → Deed → Type 0) → Tie n held few p s j → Facts j D → Facts (add p (Some (spoke (spoken n s))) j) (And (Some (spoke (spoken n s))) j.rounds D)
   speak_facts s j D t f = record {

@@ -176,10 +176,7 @@ module _ (n : ℕ) (held : ℕ → ℕ → Bool) (c : Schedule) (log : List Entr
   -- ---- verdicts
 
   shown : (p v : ℕ) → Shows n held p log v → (is_decided (ran n held p log).stage ≡ true) × ((ran n held p log).preferred ≡ v)
-  shown p v e = by (is_decided (ran n held p log).stage) refl e
-    where
-      by : (b : Bool) → is_decided (ran n held p log).stage ≡ b → answer.Verdict (cond b (Some (ran n held p log).preferred) None) ≡ answer.Verdict (Some v) → (is_decided (ran n held p log).stage ≡ true) × ((ran n held p log).preferred ≡ v)
-      by b t e = grind arith
+  shown p v e = grind arith
 
   awake_decided : (p : ℕ) → p < n → Honest n held c log p → is_decided (ran n held p log).stage ≡ true → Awake p
   awake_decided p l honest decided = by (known_of p l honest)
