@@ -1,8 +1,8 @@
 -- Which values a process may prefer after each kind of round: the step alone keeps them small.
-use Rattle.std.proofs.Common.{◌≡◌, ℕ, zero, suc, ◌%◌, ◌≤◌, min, Bool, true, false, cond, not, Option, sym, refl, ap, subst, arith}
-use Rattle.std.proofs.lemmas.Bool.{cond_both, not-false}
+use Rattle.std.proofs.Common.{◌≡◌, ℕ, zero, suc, ◌%◌, ◌≤◌, Bool, true, false, cond, not, Option, sym, refl, ap, subst, arith}
+use Rattle.std.proofs.lemmas.Bool.{not-false}
 use Rattle.adversary.specs.Laws.{Lawful}
-use Rattle.agreement.specs.Step.{State, Kind, unify, exchange, king, kind_at, kind_of, step_by, step, holds_saying, reading, or_zero, king_of}
+use Rattle.agreement.specs.Step.{State, Kind, unify, exchange, king, kind_at, kind_of, step_by, step, holds_saying}
 use Rattle.agreement.proofs.Pairs.{up_to_two, some_not_held}
 
 -- the kind of a round and of the next
@@ -39,9 +39,7 @@ module _ (n : ℕ) (held : ℕ → ℕ → Bool) where
 
   module _ (laws : Lawful n held) where
     unify_fine : (k : ℕ) (row : ℕ → Option ℕ) (s : State) → (step_by n held unify k row s).preferred ≤ 2
-    unify_fine k row s =
-        cond_both (holds_saying n held 1 row s.detected 1) 0 _ (λ x. x ≤ 2) (λ e. omega arith)
-        (λ e. cond_both (holds_saying n held 1 row s.detected 0) 1 2 (λ x. x ≤ 2) (λ f. omega arith) (λ f. omega arith))
+    unify_fine k row s = grind arith
 
     -- a process without a value after the second round follows the king, or else three pairs would cover the crew
     exchange_fine : (k : ℕ) (row : ℕ → Option ℕ) (s : State) → Fine king (step_by n held exchange k row s)
@@ -51,9 +49,7 @@ module _ (n : ℕ) (held : ℕ → ℕ → Bool) where
         h w = holds_saying n held 2 row s.detected w
 
         most : (b d : Bool) → cond b (cond d 2 1) 0 ≤ 2
-        most true true = omega arith
-        most true false = omega arith
-        most false d = omega arith
+        most b d = grind arith
 
         few : (b : Bool) → h 0 ≡ b → (d : Bool) → h 1 ≡ d → not (h 2) ≡ false → cond b (cond d 2 1) 0 ≤ 1
         few true p true q e =
@@ -62,8 +58,7 @@ module _ (n : ℕ) (held : ℕ → ℕ → Bool) where
         few false p d q e = omega arith
 
     told_fine : (k : ℕ) (row : ℕ → Option ℕ) (s : State) → Fine king s → (step_by n held king k row s).preferred ≤ 1
-    told_fine k row s f =
-        cond_both s.follows (min 1 (or_zero (reading 2 (row (king_of n k))))) s.preferred (λ x. x ≤ 1) (λ e. omega arith) (λ e. f.1 e)
+    told_fine k row s f = grind arith
 
     -- one round keeps it
     pub fine_next : (k : ℕ) (row : ℕ → Option ℕ) (s : State) → Fine (kind_of k) s → Fine (kind_of (suc k)) (step n held k row s)

@@ -1,5 +1,5 @@
 -- How many numbers pass a test.
-use Rattle.std.proofs.Common.{◌≡◌, ℕ, zero, suc, ◌+◌, ◌%◌, ◌<◌, ◌≤◌, Bool, true, false, cond, sym, refl, ap, ◌∙◌, subst, ap₂, ⊎_elim, add-zero, mod-eq_of_lt, zero-add, arith}
+use Rattle.std.proofs.Common.{◌≡◌, ℕ, zero, suc, ◌+◌, ◌%◌, ◌<◌, ◌≤◌, Bool, true, cond, sym, refl, ap, ◌∙◌, subst, ap₂, ⊎_elim, add-zero, mod-eq_of_lt, zero-add, arith}
 use native.Mathlib.Nat.{add-mod_right}
 use Rattle.std.proofs.lemmas.Bool.{cases_lt}
 use Rattle.agreement.specs.Theorems.{count}
@@ -8,13 +8,10 @@ abbrev one : Bool → ℕ
 one b = cond b 1 0
 
 one_le : (b d : Bool) → (b ≡ true → d ≡ true) → one b ≤ one d
-one_le true d f = subst (λ (x : Bool). 1 ≤ one x) (sym (f refl)) (omega arith)
-one_le false d f = omega arith
+one_le b d f = grind arith
 
 one_back : (b d : Bool) → one d ≤ one b → d ≡ true → b ≡ true
-one_back true d l e = refl
-one_back false true l e = absurd (omega arith)
-one_back false false l e = e
+one_back b d l e = grind arith
 
 pub count_mono : (n : ℕ) (P Q : ℕ → Bool) → ((x : ℕ) → x < n → P x ≡ true → Q x ≡ true) → count n P ≤ count n Q
 unfolding count

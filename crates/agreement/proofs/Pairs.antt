@@ -1,5 +1,5 @@
 -- The laws of a rule, process by process.
-use Rattle.std.proofs.Common.{◌≡◌, ℕ, zero, suc, ◌<◌, ◌≤◌, Bool, true, ◌⊎◌, Option, sym, refl, ◌∙◌, subst, inl, inr, ⊎_elim, arith}
+use Rattle.std.proofs.Common.{◌≡◌, ℕ, ◌<◌, ◌≤◌, Bool, true, ◌⊎◌, Option, sym, ◌∙◌, subst, ⊎_elim, arith}
 use Rattle.std.proofs.lemmas.Bool.{or_left, or_right, true≢false}
 use Rattle.sets.specs.Meaning.{Covered, by_first, by_second, by_third, by_all}
 use Rattle.sets.specs.Sets.{has}
@@ -10,10 +10,7 @@ use Rattle.agreement.proofs.Rows.{everybody}
 
 -- the words that count at most
 pub up_to_two : (w : ℕ) → w ≤ 2 → (w ≡ 0) ⊎ ((w ≡ 1) ⊎ (w ≡ 2))
-up_to_two zero l = inl refl
-up_to_two (suc zero) l = inr (inl refl)
-up_to_two (suc (suc zero)) l = inr (inr refl)
-up_to_two (suc (suc (suc w))) l = absurd (omega arith)
+up_to_two w l = grind arith
 
 module _ (n : ℕ) (held : ℕ → ℕ → Bool) (laws : Lawful n held) where
   -- a pair within a held one is held

@@ -72,23 +72,15 @@ module _ (n : ℕ) (held : ℕ → ℕ → Bool) (h : History) (c : Schedule) (l
     -- ---- persistence
 
     stays_one : (v : ℕ) → v ≤ 1 → Unanimous k v → Unanimous (suc k) v
-    stays_one zero l u p d = after_one p ∙ cond-true (C p 1) _ _ (unsaid_one p 1 d (λ r e f. omega (arith, u r e)))
-    stays_one (suc zero) l u p d =
-        let held_0 = unsaid_one p 0 d (λ r e f. omega (arith, u r e)) in
-        after_one p ∙ cond-false (C p 1) _ _ (false_from_ne_true (C p 1) (λ t. not_both_held p held_0 t)) ∙ cond-true (C p 0) _ _ held_0
-    stays_one (suc (suc v)) l u p d = absurd (omega arith)
+    stays_one v l u p d =
+        let other : (x : ℕ) → (x ≡ v → ⊥) → C p x ≡ true = λ x ne. unsaid_one p x d (λ r e f. omega (arith, u r e)) in
+        grind (arith, after_one p, other 0, other 1, not_both_held p)
 
     -- in the second round the value stays, and the king is not followed
     stays_two : (v : ℕ) → v ≤ 1 → Unanimous (suc k) v → (p : ℕ) → D p (suc (suc k)) → (V p (suc (suc k)) ≡ v) × ((at n held h c p (suc (suc k))).follows ≡ false)
-    stays_two zero l u p d =
-        let held_1 = unsaid_two p 1 d (λ r e f. omega (arith, u r e)) in
-        let held_2 = unsaid_two p 2 d (λ r e f. omega (arith, u r e)) in
-        (value_two p ∙ cond-false (E p 0) _ _ (false_from_ne_true (E p 0) (λ t. not_all_held p t held_1 held_2)), follows_two p ∙ not_from_true (E p 2) held_2)
-    stays_two (suc zero) l u p d =
-        let held_0 = unsaid_two p 0 d (λ r e f. omega (arith, u r e)) in
-        let held_2 = unsaid_two p 2 d (λ r e f. omega (arith, u r e)) in
-        (value_two p ∙ cond-true (E p 0) _ _ held_0 ∙ cond-false (E p 1) _ _ (false_from_ne_true (E p 1) (λ t. not_all_held p held_0 t held_2)), follows_two p ∙ not_from_true (E p 2) held_2)
-    stays_two (suc (suc v)) l u p d = absurd (omega arith)
+    stays_two v l u p d =
+        let other : (x : ℕ) → (x ≡ v → ⊥) → E p x ≡ true = λ x ne. unsaid_two p x d (λ r e f. omega (arith, u r e)) in
+        (grind (arith, value_two p, other 0, other 1, other 2, not_all_held p), follows_two p ∙ not_from_true (E p 2) (other 2 (omega arith)))
 
     before : (p j : ℕ) → D p (suc j) → D p j
     before p j d = done_before n held h c p (suc j) j (omega arith) d
@@ -115,24 +107,14 @@ module _ (n : ℕ) (held : ℕ → ℕ → Bool) (h : History) (c : Schedule) (l
           clash n held h c laws kept bits covered k 1 open_one p q 1 0 dp dq quiet_one (λ r d right. bit_said r d) (zero_from (C p 1) (C p 0) (sym (after_one p) ∙ zero_p)) (one_from (C q 1) (C q 0) (sym (after_one q) ∙ one_q))
         where
           zero_from : (x y : Bool) → ◌≡◌ {A = ℕ} (cond x 0 (cond y 1 2)) 0 → x ≡ true
-          zero_from true y e = refl
-          zero_from false true e = absurd (omega arith)
-          zero_from false false e = absurd (omega arith)
+          zero_from x y e = grind arith
 
           one_from : (x y : Bool) → ◌≡◌ {A = ℕ} (cond x 0 (cond y 1 2)) 1 → y ≡ true
-          one_from true y e = absurd (omega arith)
-          one_from false true e = refl
-          one_from false false e = absurd (omega arith)
+          one_from x y e = grind arith
 
       -- where one prefers v, no other prefers the other bit
       one_bit : (v w p q : ℕ) → v ≤ 1 → w ≤ 1 → (v ≡ w → ⊥) → D p (suc k) → D q (suc k) → V p (suc k) ≡ v → V q (suc k) ≡ w → ⊥
-      one_bit zero zero p q a b ne dp dq e f = ne refl
-      one_bit zero (suc zero) p q a b ne dp dq e f = no_split p q dp dq e f
-      one_bit zero (suc (suc w)) p q a b ne dp dq e f = absurd (omega arith)
-      one_bit (suc zero) zero p q a b ne dp dq e f = no_split q p dq dp f e
-      one_bit (suc zero) (suc zero) p q a b ne dp dq e f = ne refl
-      one_bit (suc zero) (suc (suc w)) p q a b ne dp dq e f = absurd (omega arith)
-      one_bit (suc (suc v)) w p q a b ne dp dq e f = absurd (omega arith)
+      one_bit v w p q a b ne dp dq e f = grind (arith, no_split p q dp dq, no_split q p dq dp)
 
       -- a bit that p prefers after the second round was said, so nobody said the other
       module _ (p v w : ℕ) (v_bit : v ≤ 1) (w_bit : w ≤ 1) (apart : v ≡ w → ⊥) (d : D p (suc (suc k))) (not_held : E p v ≡ false) where
@@ -155,10 +137,7 @@ module _ (n : ℕ) (held : ℕ → ℕ → Bool) (h : History) (c : Schedule) (l
             (false_from_ne_true (E q v) (λ t. clash n held h c laws kept bits covered (suc k) 2 open_two p q 2 v d dq quiet_two said_v_or_2 two_held t))
           where
             prefers : (v w : ℕ) → v ≤ 1 → w ≤ 1 → (v ≡ w → ⊥) → V q (suc (suc k)) ≡ cond (E q 0) (cond (E q 1) 2 1) 0 → E q w ≡ true → E q v ≡ false → V q (suc (suc k)) ≡ v
-            prefers zero w a b ne e x y = e ∙ cond-false (E q 0) _ _ y
-            prefers (suc zero) zero a b ne e x y = e ∙ cond-true (E q 0) _ _ x ∙ cond-false (E q 1) _ _ y
-            prefers (suc zero) (suc w) a b ne e x y = absurd (omega arith)
-            prefers (suc (suc v)) w a b ne e x y = absurd (omega arith)
+            prefers v w a b ne e x y = grind arith
 
       -- a process that does not follow the king has a bit, and everyone prefers it
       settled : (p : ℕ) → D p (suc (suc k)) → (at n held h c p (suc (suc k))).follows ≡ false → (V p (suc (suc k)) ≤ 1) × ((q : ℕ) → D q (suc (suc k)) → V q (suc (suc k)) ≡ V p (suc (suc k)))
@@ -172,15 +151,11 @@ module _ (n : ℕ) (held : ℕ → ℕ → Bool) (h : History) (c : Schedule) (l
           by zero z l t q dq = all_prefer p 0 1 (omega arith) (omega arith) (omega arith) d (first_zero (E p 0) (E p 1) (sym (value_two p) ∙ z)) t q dq ∙ sym z
             where
               first_zero : (x y : Bool) → ◌≡◌ {A = ℕ} (cond x (cond y 2 1) 0) 0 → x ≡ false
-              first_zero true true e = absurd (omega arith)
-              first_zero true false e = absurd (omega arith)
-              first_zero false y e = refl
+              first_zero x y e = grind arith
           by (suc zero) z l t q dq = all_prefer p 1 0 (omega arith) (omega arith) (omega arith) d (first_one (E p 0) (E p 1) (sym (value_two p) ∙ z)) t q dq ∙ sym z
             where
               first_one : (x y : Bool) → ◌≡◌ {A = ℕ} (cond x (cond y 2 1) 0) 1 → y ≡ false
-              first_one true true e = absurd (omega arith)
-              first_one true false e = refl
-              first_one false y e = absurd (omega arith)
+              first_one x y e = grind arith
           by (suc (suc v)) z l t q dq = absurd (omega arith)
 
       -- the king is heard by everyone

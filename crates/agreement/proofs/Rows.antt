@@ -1,6 +1,6 @@
 -- Who is caught in a round, and who said what.
 use Rattle.std.proofs.Common.{◌≡◌, ℕ, ◌<◌, ◌≤◌, Bool, true, false, cond, not, ◌&&◌, ◌||◌, ltb, leb, ◌⊎◌, is_some, Some, None, Option, sym, refl, ap, ◌∙◌, inl, inr, ⊎_elim, arith}
-use Rattle.std.proofs.lemmas.Bool.{cases_Bool, cond-true, and_parts, and_from, or_cases, or_left, or_right, ltb-true, lt-ltb, leb-true, le-leb, eqb-true, eq-eqb, not-true, not_from_false, true≢false}
+use Rattle.std.proofs.lemmas.Bool.{cases_Bool, cond-true, and_parts, and_from, or_cases, or_right, ltb-true, lt-ltb, leb-true, le-leb, eqb-true, eq-eqb, not-true, not_from_false}
 use Rattle.adversary.specs.ListLaws.{unless}
 use Rattle.sets.specs.Sets.{has}
 use Rattle.sets.proofs.Masks.{has_or, has_mask}
@@ -24,7 +24,7 @@ says_word w None e = cc
 says_word w (Some x) e = eq-eqb x w (cc)
 
 says_from : (w : ℕ) (o : Option ℕ) → says w o ≡ true → o ≡ Some w
-says_from w None e = absurd (true≢false (sym e))
+says_from w None e = cc
 says_from w (Some x) e = ap Some (eqb-true x w e)
 
 none_is : {X : Type 0} (o : Option X) → o ≡ None → not (is_some o) ≡ true
@@ -43,10 +43,6 @@ module _ (n most : ℕ) (row : ℕ → Option ℕ) (l : ℕ) where
   in_saying : (w r : ℕ) → has (saying n most row l w) r ≡ (ltb r n && (says w (reading most (row r)) && not (has (caught n most row l) r)))
   unfolding saying
   in_saying w r = has_mask n (λ r. says w (reading most (row r)) && not (has (caught n most row l) r)) r
-
-  -- who was detected stays so
-  pub caught_old : (r : ℕ) → has l r ≡ true → has (caught n most row l) r ≡ true
-  caught_old r e = in_caught r ∙ or_left (has l r) _ e
 
   -- who says nothing that counts is caught
   pub caught_silent : (r : ℕ) → r < n → reading most (row r) ≡ None → has (caught n most row l) r ≡ true

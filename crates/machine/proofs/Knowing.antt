@@ -1,5 +1,5 @@
 -- What is known of a process after any calls: it never started, or its state and its deeds are tied.
-use Rattle.std.proofs.Common.{◌≡◌, ℕ, suc, ◌-◌, ◌≤◌, Bool, true, false, cond, not, ltb, ◌⊎◌, Some, None, Option, sym, refl, ap, ◌∙◌, subst, inl, inr, ⊎_elim, arith}
+use Rattle.std.proofs.Common.{◌≡◌, ℕ, suc, ◌-◌, ◌≤◌, Bool, false, not, ltb, ◌⊎◌, Some, None, Option, sym, refl, ap, ◌∙◌, subst, inl, inr, ⊎_elim, arith}
 use Rattle.std.proofs.lemmas.Bool.{cases_eq, ltb-false, not-false, true≢false}
 use Rattle.sets.specs.Sets.{limit}
 use Rattle.refusal.specs.declared.process.ProcessRefusal.{ProcessRefusal}
@@ -8,7 +8,7 @@ use Rattle.adversary.specs.Search.{or_else_none}
 use Rattle.adversary.specs.ListLaws.{when_none}
 use Rattle.agreement.specs.Step.{State}
 use Rattle.machine.specs.Deeds.{Deed, started, spoke, heard, shut, deed_of_reply}
-use Rattle.machine.specs.Machine.{resting, is_resting, is_due, is_listening, muted, stranger, refused, spoken, answered_by, carried, reply_by, after_by, replied, after}
+use Rattle.machine.specs.Machine.{resting, is_resting, is_due, is_listening, stranger, refused, spoken, answered_by, carried, reply_by, after_by, replied, after}
 use Rattle.machine.specs.declared.types.Call.{Call}
 use Rattle.machine.specs.declared.types.Call.TheVariants as call
 use Rattle.machine.specs.declared.types.ProcessState.{ProcessState}
@@ -20,7 +20,6 @@ module _ (n : ℕ) (held : ℕ → ℕ → Bool) (few : n ≤ limit) (p : ℕ) w
   pub record Facts (j : Journal) (D : ℕ → Deed → Type 0) : Type 0 where
     pub bit_small : j.bit ≤ 1
     pub begun : (m : ℕ) × D 0 (started m j.bit)
-    pub one_start : (k m b : ℕ) → D k (started m b) → b ≡ j.bit
     pub not_own : (k r w : ℕ) → D k (heard (suc r) w) → r ≡ p → ⊥
     pub in_row : (k r w : ℕ) → D k (heard (suc r) w) → j.row k r ≡ Some w
     pub from_row : (k r w : ℕ) → j.row k r ≡ Some w → (r ≡ p → ⊥) → D k (heard (suc r) w)
@@ -40,7 +39,6 @@ module _ (n : ℕ) (held : ℕ → ℕ → Bool) (few : n ≤ limit) (p : ℕ) w
   idle s j D (awake t f) = awake t record {
     bit_small = f.bit_small;
     begun = (f.begun.0, inr f.begun.1);
-    one_start = λ k m b. ⊎_elim (λ x. let e = x.0 in cc) (f.one_start k m b);
     not_own = λ k r w. ⊎_elim (λ x. let e = x.0 in cc) (f.not_own k r w);
     in_row = λ k r w. ⊎_elim (λ x. let e = x.0 in cc) (f.in_row k r w);
     from_row = λ k r w e ne. inr (f.from_row k r w e ne);
@@ -57,7 +55,6 @@ module _ (n : ℕ) (held : ℕ → ℕ → Bool) (few : n ≤ limit) (p : ℕ) w
       record {
         bit_small = ltb-false 1 b (when_none (ltb 1 b) _ c.1);
         begun = (m, inl (refl, zero_rounds));
-        one_start = λ k m' b'. ⊎_elim (λ x. let e = x.0 in cc) (λ d. absurd (none _ _ d));
         not_own = λ k r w. ⊎_elim (λ x. let e = x.0 in cc) (λ d. absurd (none _ _ d));
         in_row = λ k r w. ⊎_elim (λ x. let e = x.0 in cc) (λ d. absurd (none _ _ d));
         from_row = λ k r w e ne. let f = empty k r in cc;
@@ -67,17 +64,12 @@ module _ (n : ℕ) (held : ℕ → ℕ → Bool) (few : n ≤ limit) (p : ℕ) w
   -- ---- speak
 
   said_preferred : (s : ProcessState) (w : ℕ) → spoken n s ≡ Some w → w ≡ s.preferred
-  said_preferred s w e = by (muted n s s.number) e
-    where
-      by : (b : Bool) → cond b None (Some s.preferred) ≡ Some w → w ≡ s.preferred
-      by true e = cc
-      by false e = cc
+  said_preferred s w e = grind arith
 
   speak_facts : (s : ProcessState) (j : Journal) (D : ℕ → Deed → Type 0) → Tie n held few p s j → Facts j D → Facts (add p (Some (spoke (spoken n s))) j) (And (Some (spoke (spoken n s))) j.rounds D)
   speak_facts s j D t f = record {
     bit_small = f.bit_small;
     begun = (f.begun.0, inr f.begun.1);
-    one_start = λ k m b. ⊎_elim (λ x. let e = x.0 in cc) (f.one_start k m b);
     not_own = λ k r w. ⊎_elim (λ x. let e = x.0 in cc) (f.not_own k r w);
     in_row = λ k r w. ⊎_elim (λ x. let e = x.0 in cc) (λ d. kept k r (f.not_own k r w d) ∙ f.in_row k r w d);
     from_row = λ k r w e ne. inr (f.from_row k r w (sym (kept k r ne) ∙ e) ne);
@@ -102,7 +94,6 @@ module _ (n : ℕ) (held : ℕ → ℕ → Bool) (few : n ≤ limit) (p : ℕ) w
   hear_facts s j D m w t h f = record {
     bit_small = f.bit_small;
     begun = (f.begun.0, inr f.begun.1);
-    one_start = λ k m' b. ⊎_elim (λ x. let e = x.0 in cc) (f.one_start k m' b);
     not_own = λ k r x. ⊎_elim (λ y e. h.other (let q : m ≡ suc r = (let u = y.0 in cc) in omega (arith, t.number))) (f.not_own k r x);
     in_row = λ k r x. ⊎_elim
         (λ y.
@@ -148,7 +139,6 @@ module _ (n : ℕ) (held : ℕ → ℕ → Bool) (few : n ≤ limit) (p : ℕ) w
   shut_facts j D f = record {
     bit_small = f.bit_small;
     begun = (f.begun.0, inr f.begun.1);
-    one_start = λ k m b. ⊎_elim (λ x. let e = x.0 in cc) (f.one_start k m b);
     not_own = λ k r w. ⊎_elim (λ x. let e = x.0 in cc) (f.not_own k r w);
     in_row = λ k r w. ⊎_elim (λ x. let e = x.0 in cc) (f.in_row k r w);
     from_row = λ k r w e ne. inr (f.from_row k r w e ne);

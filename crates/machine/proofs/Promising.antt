@@ -1,5 +1,5 @@
 -- The promise: from a log of calls to a history that keeps the schedule, and from there by the agreement theorem.
-use Rattle.std.proofs.Common.{Ok, ◌≡◌, ℕ, zero, suc, ◌+◌, ◌<◌, ◌≤◌, Bool, true, false, cond, eqb, List, [], ◌∷◌, Some, None, Option, sym, refl, ap, ◌∙◌, subst, inl, inr, ⊎_elim, arith}
+use Rattle.std.proofs.Common.{Ok, ◌≡◌, ℕ, zero, suc, ◌+◌, ◌<◌, ◌≤◌, Bool, true, cond, eqb, List, [], ◌∷◌, Some, None, Option, sym, refl, ap, ◌∙◌, subst, inl, inr, ⊎_elim, arith}
 use Rattle.std.proofs.lemmas.Bool.{cases_Bool, cases_eq, cond-true, cond-false, and_parts, not-true, eq-eqb, ne_eqb, true≢false}
 use Rattle.sets.specs.Sets.{has, limit}
 use Rattle.history.specs.Protocols.{History, state}
@@ -11,7 +11,7 @@ use Rattle.agreement.specs.Step.{State, protocol}
 use Rattle.agreement.specs.Theorems as theorems
 use Rattle.agreement.proofs.Agreeing.{agreement, validity}
 use Rattle.agreement.proofs.Rows.{read_or}
-use Rattle.machine.specs.Deeds.{Deed, started, spoke, heard, shut, deed_of_reply, deed_of, is_shut, shuts, Did}
+use Rattle.machine.specs.Deeds.{Deed, started, spoke, deed_of_reply, deed_of, is_shut, shuts, Did}
 use Rattle.refusal.specs.declared.process.ProcessRefusal.{ProcessRefusal}
 use Rattle.machine.specs.Machine.{reply_by, is_decided, answered_by, replied, after}
 use Rattle.machine.specs.Promise.{ran, Faithful, Shows, Honest, Message, Course, Started, PromiseKept}
@@ -29,11 +29,7 @@ journal d p [] = record { rounds = 0; bit = d; row = λ k r. None }
 journal d p (e ∷ log) = add p (deed_of p e) (journal d p log)
 
 add_rounds : (p : ℕ) (o : Option Deed) (j : Journal) → (add p o j).rounds ≡ is_shut o + j.rounds
-add_rounds p None j = omega arith
-add_rounds p (Some (started m b)) j = omega arith
-add_rounds p (Some (spoke w)) j = omega arith
-add_rounds p (Some (heard m w)) j = omega arith
-add_rounds p (Some shut) j = omega arith
+add_rounds p o j = grind arith
 
 journal_rounds : (d p : ℕ) (log : List Entry) → (journal d p log).rounds ≡ shuts p log
 unfolding journal
@@ -83,11 +79,7 @@ module _ (n : ℕ) (held : ℕ → ℕ → Bool) (few : n ≤ limit) (d p : ℕ)
       (cases_eq e.who p)
 
 add_bit : (p : ℕ) (o : Option Deed) (j : Journal) → ((m b : ℕ) → o ≡ Some (started m b) → ⊥) → (add p o j).bit ≡ j.bit
-add_bit p None j never = refl
-add_bit p (Some (started m b)) j never = absurd (never m b refl)
-add_bit p (Some (spoke w)) j never = refl
-add_bit p (Some (heard m w)) j never = refl
-add_bit p (Some shut) j never = refl
+add_bit p o j never = grind arith
 
 -- a process that never started has the bit d
 journal_bit : (d p : ℕ) (log : List Entry) → ((k m b : ℕ) → Did p k (started m b) log → ⊥) → (journal d p log).bit ≡ d
@@ -184,11 +176,7 @@ module _ (n : ℕ) (held : ℕ → ℕ → Bool) (c : Schedule) (log : List Entr
   -- ---- verdicts
 
   shown : (p v : ℕ) → Shows n held p log v → (is_decided (ran n held p log).stage ≡ true) × ((ran n held p log).preferred ≡ v)
-  shown p v e = by (is_decided (ran n held p log).stage) refl e
-    where
-      by : (b : Bool) → is_decided (ran n held p log).stage ≡ b → answer.Verdict (cond b (Some (ran n held p log).preferred) None) ≡ answer.Verdict (Some v) → (is_decided (ran n held p log).stage ≡ true) × ((ran n held p log).preferred ≡ v)
-      by true t e = (t, cc)
-      by false t e = cc
+  shown p v e = grind arith
 
   awake_decided : (p : ℕ) → p < n → Honest n held c log p → is_decided (ran n held p log).stage ≡ true → Awake p
   awake_decided p l honest decided = by (known_of p l honest)

@@ -2,7 +2,8 @@
 use Rattle.std.proofs.Common.{◌≡◌, ℕ, suc, ◌-◌, ◌<◌, ◌≤◌, Bool, true, false, not, ◌&&◌, ◌||◌, eqb, leb, ◌⊎◌, List, length, get_or, set, replicate, is_some, Some, None, Option, sym, refl, ap, ◌∙◌, subst, inl, inr, ⊎_elim, arith}
 use mathlib.Core.Path.{fun_ext}
 use Rattle.std.proofs.lemmas.List.{get_or-set_same, get_or-set_other, get_or-replicate, get_or_past, length-set, length-replicate}
-use Rattle.std.proofs.lemmas.Bool.{cases_Bool, cases_eq, cases_lt, cond-true, cond-false, cond_both, and_parts, or_parts, eqb-true, eqb-false, eq-eqb, leb-true, leb-false, not-false, not_from_true, true≢false}
+use Rattle.std.proofs.lemmas.Bool.{cases_eq, cases_lt, cond-false, and_parts, or_parts, eqb-true, eqb-false, eq-eqb, leb-true, not-false, not_from_true, true≢false}
+use Rattle.std.proofs.lemmas.Bool.Decides.{nat_tests}
 use Rattle.sets.specs.Sets.{limit}
 use Rattle.adversary.specs.Refusals.{when}
 use Rattle.adversary.specs.Search.{or_else_none}
@@ -14,7 +15,6 @@ use Rattle.machine.specs.Machine.{is_resting, is_due, is_listening, is_decided, 
 use Rattle.machine.specs.declared.types.Call.TheVariants as call
 use Rattle.machine.specs.declared.types.ProcessState.{ProcessState}
 use Rattle.machine.specs.declared.types.Stage.{Stage}
-use Rattle.machine.specs.declared.types.Stage.TheVariants.{Resting, Due, Listening, Decided}
 use Rattle.machine.proofs.Journals.{Journal, put, put_here, put_other_round, put_other, add, folded, folded_same}
 
 -- an empty inbox
@@ -51,16 +51,10 @@ module _ (n : ℕ) (held : ℕ → ℕ → Bool) (few : n ≤ limit) (p : ℕ) w
 
   -- who is in which stage
   not_due_listening : (t : Stage) → is_listening t ≡ true → is_due t ≡ false
-  not_due_listening Resting e = refl
-  not_due_listening Due e = absurd (true≢false (sym e))
-  not_due_listening Listening e = refl
-  not_due_listening Decided e = refl
+  not_due_listening t e = grind arith
 
   not_decided : (t : Stage) → (is_due t ≡ true) ⊎ (is_listening t ≡ true) → is_decided t ≡ false
-  not_decided Resting e = refl
-  not_decided Due e = refl
-  not_decided Listening e = refl
-  not_decided Decided e = absurd (⊎_elim (λ x. true≢false (sym x)) (λ x. true≢false (sym x)) e)
+  not_decided t e = grind arith
 
   -- where a word is due from it, it is not muted
   not_muted : (s : ProcessState) (k : ℕ) → shut_of s ≡ k → s.number ≡ suc p → DueFrom k → muted n s s.number ≡ false
@@ -84,7 +78,7 @@ module _ (n : ℕ) (held : ℕ → ℕ → Bool) (few : n ≤ limit) (p : ℕ) w
     where
       stage_of : p < n → (t : Bool) → eqb (rounds_of n) 0 ≡ t → Tie (carried n held s (call.Start m b)) (add p (Some (started m b)) j)
       stage_of known t e = record {
-        awake = cond_both (eqb (rounds_of n) 0) Decided Due (λ x. is_resting x ≡ false) (λ _. refl) (λ _. refl);
+        awake = grind arith;
         known = known;
         number = own;
         round = omega arith;
@@ -94,9 +88,9 @@ module _ (n : ℕ) (held : ℕ → ℕ → Bool) (few : n ≤ limit) (p : ℕ) w
         beyond = λ k r l. empty k r;
         said = λ k l. absurd (omega arith);
         silent = λ _ r. empty j.rounds r;
-        saying = λ l. absurd (true≢false (sym l ∙ cond_both (eqb (rounds_of n) 0) Decided Due (λ x. is_listening x ≡ false) (λ _. refl) (λ _. refl)));
-        going = λ g. ⊎_elim (λ z. absurd (true≢false (sym (ap is_decided (cond-true (eqb (rounds_of n) 0) Decided Due z)) ∙ g))) (λ z. let ne = eqb-false (rounds_of n) 0 z in omega arith) (cases_Bool (eqb (rounds_of n) 0));
-        done = λ g. ⊎_elim (λ z. let w = eqb-true (rounds_of n) 0 z in omega arith) (λ z. absurd (true≢false (sym g ∙ ap is_decided (cond-false (eqb (rounds_of n) 0) Decided Due z)))) (cases_Bool (eqb (rounds_of n) 0));
+        saying = λ l. absurd (grind arith);
+        going = λ g. grind (arith, nat_tests);
+        done = λ g. grind (arith, nat_tests);
       }
 
   -- ---- what a word put into a row leaves as it was
@@ -157,8 +151,7 @@ module _ (n : ℕ) (held : ℕ → ℕ → Bool) (few : n ≤ limit) (p : ℕ) w
     pub free : slot s (m - 1) ≡ None
 
   no_word : (o : Option ℕ) → is_some o ≡ false → o ≡ None
-  no_word None e = refl
-  no_word (Some x) e = absurd (true≢false e)
+  no_word o e = grind arith
 
   pub hearable : (s : ProcessState) (m i w : ℕ) → refused n s (call.Hear m i w) ≡ None → Hearable s m
   hearable s m i w ok =
@@ -209,7 +202,7 @@ module _ (n : ℕ) (held : ℕ → ℕ → Bool) (few : n ≤ limit) (p : ℕ) w
       let next : step n held (shut_of s) (slot s) (core s) ≡ F j (suc j.rounds) =
       ap (λ (k : ℕ). step n held k (slot s) (core s)) now ∙ ap (λ (x : ℕ → Option ℕ). step n held j.rounds x (core s)) rows ∙ ap (step n held j.rounds (j.row j.rounds)) t.state in
       record {
-        awake = cond_both (leb (rounds_of n) s.round) Decided Due (λ x. is_resting x ≡ false) (λ _. refl) (λ _. refl);
+        awake = grind arith;
         known = t.known;
         number = t.number;
         round = omega (arith, t.round);
@@ -222,7 +215,7 @@ module _ (n : ℕ) (held : ℕ → ℕ → Bool) (few : n ≤ limit) (p : ℕ) w
             (λ (m : j.rounds ≤ k). let same : j.rounds ≡ k = omega arith in subst (λ (x : ℕ). (DueFrom x → j.row x p ≡ Some (F j x).preferred)) same (t.saying listening) d)
             (cases_lt k j.rounds);
         silent = λ _ r. t.beyond (suc j.rounds) r (omega arith);
-        saying = λ l. absurd (true≢false (sym l ∙ cond_both (leb (rounds_of n) s.round) Decided Due (λ x. is_listening x ≡ false) (λ _. refl) (λ _. refl)));
-        going = λ g. ⊎_elim (λ z. absurd (true≢false (sym (ap is_decided (cond-true (leb (rounds_of n) s.round) Decided Due z)) ∙ g))) (λ z. let ne = leb-false (rounds_of n) s.round z in omega (arith, t.round)) (cases_Bool (leb (rounds_of n) s.round));
-        done = λ g. ⊎_elim (λ z. let w = leb-true (rounds_of n) s.round z in omega (arith, t.round)) (λ z. absurd (true≢false (sym g ∙ ap is_decided (cond-false (leb (rounds_of n) s.round) Decided Due z)))) (cases_Bool (leb (rounds_of n) s.round));
+        saying = λ l. absurd (grind arith);
+        going = λ g. grind (arith, nat_tests, t.round);
+        done = λ g. grind (arith, nat_tests, t.round, below);
       }

@@ -19,7 +19,7 @@ pub enum Stage {
 }
 
 // One process, without its rule. The slot of each process holds the word heard from it in this round.
-#[derive(Clone, Copy)]
+#[derive(Clone, Copy, Debug, PartialEq, Eq)]
 pub struct ProcessState {
     pub stage: Stage,
     pub number: u8,
@@ -42,7 +42,7 @@ pub enum Call {
 }
 
 // How a process stands: its preferred value, the rounds shut, whom it has detected, and how many words were missing.
-#[derive(Clone, Copy)]
+#[derive(Clone, Copy, Debug, PartialEq, Eq)]
 pub struct Report {
     pub preferred: u8,
     pub shut: u16,
@@ -51,7 +51,7 @@ pub struct Report {
 }
 
 // What a call that is carried out answers.
-#[derive(Clone, Copy)]
+#[derive(Clone, Copy, Debug, PartialEq, Eq)]
 pub enum Answer {
     Started,
     Spoke(Option<u8>),

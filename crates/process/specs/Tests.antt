@@ -1,6 +1,6 @@
--- Tests that are asked about the processes of a crew, one by one.
+-- Questions that are asked about the processes of a crew, one by one.
 use Rattle.std.specs.Prelude.{◌≡◌, ℕ, ◌<◌, Bool}
 
--- what is answered about the first n processes is what this test says
-abbrev pub Answers : (ℕ → Bool → Type 0) → ℕ → (ℕ → Bool) → Type 0
-Answers answers n test = (r : ℕ) (b : Bool) → r < n → answers r b → b ≡ test r
+-- at the positions below n, whatever is answered is what this test says
+abbrev pub AgreesBelow : (ℕ → Bool → Type 0) → ℕ → (ℕ → Bool) → Type 0
+AgreesBelow answers n test = (r : ℕ) (b : Bool) → r < n → answers r b → b ≡ test r

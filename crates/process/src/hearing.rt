@@ -3,7 +3,7 @@ ghost use Rattle.std.specs.Prelude.{◌≡◌, ℕ, ◌<◌, ◌≤◌, Bool, bi
 ghost use Rattle.sets.specs.Sets.{limit, mask};
 ghost use Rattle.agreement.specs.Step.{reading, caught as caughts, saying as sayings, holds_saying, most_word};
 ghost use Rattle.process.specs.Rounds.{row_of, round_kind};
-ghost use Rattle.process.specs.Tests.{Answers};
+ghost use Rattle.process.specs.Tests.{AgreesBelow};
 
 use crate::kind::Kind;
 use adversary::AdversaryStructure;
@@ -18,10 +18,11 @@ pub(crate) fn read_slot(slots: &[Option<u8>], kind: Kind, position: u8) -> Optio
 }
 
 // The set of those of the first `count` processes whose positions pass a test.
+#[tactic(auto, using(sets::proofs::Masks::mask_step), unfolding(sets::specs::Sets::mask))]
 fn passing<F: Fn(u8) -> bool>(count: u8, test: F) -> ProcessSet
     requires few { count ≤ limit }
     requires callable { (r : ℕ) → r < count → F.pre test r }
-    ensures { (t : ℕ → Bool) → Answers (F.post test) count t → result.bits ≡ mask count t }
+    ensures { (t : ℕ → Bool) → AgreesBelow (F.post test) count t → result.bits ≡ mask count t }
 {
     let mut set = ProcessSet::EMPTY;
     for position in 0..count {
@@ -46,6 +47,7 @@ pub(crate) struct Hearing<'a, S: AdversaryStructure> {
 
 impl<'a, S: AdversaryStructure> Hearing<'a, S> {
     // What is heard by a process that had detected these.
+    #[tactic(auto, unfolding(agreement::specs::Step::caught))]
     pub(crate) fn new(
         rule: &'a S,
         slots: &'a [Option<u8>],
@@ -78,6 +80,7 @@ impl<'a, S: AdversaryStructure> Hearing<'a, S> {
     }
 
     // Those that said `word` and are not caught.
+    #[tactic(auto, unfolding(agreement::specs::Step::saying))]
     fn saying(&self, word: u8) -> ProcessSet
         ensures { result.bits ≡ sayings (S.AdversaryStructure.size self.now.rule.now) (most_word (round_kind self.now.kind)) (row_of self.now.slots.now) self.now.detected.bits word }
     {

@@ -10,7 +10,7 @@ use sets::ProcessSet;
 
 // What a process knows between rounds: its preferred value, whom it has detected, and whether it follows the king.
 // The value is a byte and no enum: words come as bytes, and a step may be asked about any.
-#[derive(Clone, Copy)]
+#[derive(Clone, Copy, Debug, PartialEq, Eq)]
 pub struct Core {
     pub preferred: u8,
     pub detected: ProcessSet,
@@ -77,6 +77,7 @@ fn king<S: AdversaryStructure>(rule: &S, shut: u16) -> u8
 }
 
 // The step of the round after `shut` rounds, on the words in the slots.
+#[tactic(auto, unfolding(agreement::specs::Step::step))]
 pub fn step<S: AdversaryStructure>(rule: &S, shut: u16, slots: &[Option<u8>], before: Core) -> Core
     ensures { state_of result ≡ steps (S.AdversaryStructure.size rule.now) (S.AdversaryStructure.holding rule.now) shut (row_of slots.now) (state_of before) }
 {
