@@ -18,7 +18,7 @@ use std::alloc::Global;
 pub const MAX_BYTES: usize = 8192;
 
 // The number of processes, the listed pairs and the counts, each with its line.
-#[derive(Drop)]
+#[derive(Debug, PartialEq, Eq, Drop)]
 pub struct Draft {
     pub seats: Option<Located<u16>>,
     pub pairs: Vec<Located<FaultPair>>,

@@ -32,7 +32,7 @@ pub struct Counts {
 }
 
 // What a line says.
-#[derive(Clone, Copy)]
+#[derive(Clone, Copy, Debug, PartialEq, Eq)]
 pub enum Entry {
     Seats(u16),
     Pair(FaultPair),
