@@ -17,63 +17,86 @@ pub struct Core {
     pub follows: bool,
 }
 
-// First round: 0 if those that said 1 may all be faulty, else 1 if those that said 0 may, else no value.
-fn unified<S: AdversaryStructure>(rule: &S, slots: &[Option<u8>], before: Core) -> Core
-    ensures { state_of result ≡ unifies (S.AdversaryStructure.size rule.now) (S.AdversaryStructure.holding rule.now) (row_of slots.now) (state_of before) }
-{
-    let heard = Hearing::new(rule, slots, Kind::Unify, before.detected);
-    let preferred = if heard.may_lie(1) {
-        0
-    } else if heard.may_lie(0) {
-        1
-    } else {
-        NO_VALUE
-    };
-    Core {
-        preferred,
-        detected: heard.caught(),
-        ..before
-    }
+// What one process has at the end of a round: the rule, the words in the slots, how many rounds were shut before,
+// and what it knew then.
+#[derive(Clone, Copy)]
+struct Round<'a, S> {
+    rule: &'a S,
+    slots: &'a [Option<u8>],
+    shut: u16,
+    before: Core,
 }
 
-// Second round: 0 if those that said 0 cannot all be faulty, else 1 likewise, else no value.
-fn exchanged<S: AdversaryStructure>(rule: &S, slots: &[Option<u8>], before: Core) -> Core
-    ensures { state_of result ≡ exchanges (S.AdversaryStructure.size rule.now) (S.AdversaryStructure.holding rule.now) (row_of slots.now) (state_of before) }
-{
-    let heard = Hearing::new(rule, slots, Kind::Exchange, before.detected);
-    let preferred = if !heard.may_lie(0) {
-        0
-    } else if !heard.may_lie(1) {
-        1
-    } else {
-        NO_VALUE
-    };
-    Core {
-        preferred,
-        detected: heard.caught(),
-        follows: !heard.may_lie(NO_VALUE),
+impl<S: AdversaryStructure> Round<'_, S> {
+    // What is heard in a round of this kind.
+    fn heard(&self, kind: Kind) -> Hearing<'_, S>
+        ensures of_rule { result.rule.now ≡ self.now.rule.now }
+        ensures of_slots { result.slots.now ≡ self.now.slots.now }
+        ensures of_kind { result.kind ≡ kind }
+        ensures of_detected { result.detected ≡ self.now.before.detected }
+    {
+        Hearing::new(self.rule, self.slots, kind, self.before.detected)
     }
-}
 
-// Third round: a king that is followed gives the value, 1 at most.
-fn told<S: AdversaryStructure>(rule: &S, shut: u16, slots: &[Option<u8>], before: Core) -> Core
-    ensures { state_of result ≡ tells (S.AdversaryStructure.size rule.now) (S.AdversaryStructure.holding rule.now) shut (row_of slots.now) (state_of before) }
-{
-    if !before.follows {
-        return before;
+    // First round: 0 if those that said 1 may all be faulty, else 1 if those that said 0 may, else no value.
+    fn unified(&self) -> Core
+        ensures { state_of result ≡ unifies (S.AdversaryStructure.size self.now.rule.now) (S.AdversaryStructure.holding self.now.rule.now) (row_of self.now.slots.now) (state_of self.now.before) }
+    {
+        let heard = self.heard(Kind::Unify);
+        let preferred = if heard.may_lie(1) {
+            0
+        } else if heard.may_lie(0) {
+            1
+        } else {
+            NO_VALUE
+        };
+        Core {
+            preferred,
+            detected: heard.caught(),
+            ..self.before
+        }
     }
-    let word = read_slot(slots, Kind::King, king(rule, shut)).unwrap_or(0);
-    Core {
-        preferred: word.min(1),
-        ..before
-    }
-}
 
-// The position of the king of the round after `shut` rounds.
-fn king<S: AdversaryStructure>(rule: &S, shut: u16) -> u8
-    ensures { result ≡ king_of (S.AdversaryStructure.size rule.now) shut }
-{
-    ((shut / PHASE_ROUNDS) % u16::from(rule.processes())) as u8
+    // Second round: 0 if those that said 0 cannot all be faulty, else 1 likewise, else no value.
+    fn exchanged(&self) -> Core
+        ensures { state_of result ≡ exchanges (S.AdversaryStructure.size self.now.rule.now) (S.AdversaryStructure.holding self.now.rule.now) (row_of self.now.slots.now) (state_of self.now.before) }
+    {
+        let heard = self.heard(Kind::Exchange);
+        let preferred = if !heard.may_lie(0) {
+            0
+        } else if !heard.may_lie(1) {
+            1
+        } else {
+            NO_VALUE
+        };
+        Core {
+            preferred,
+            detected: heard.caught(),
+            follows: !heard.may_lie(NO_VALUE),
+        }
+    }
+
+    // Third round: a king that is followed gives the value, 1 at most.
+    fn told(&self) -> Core
+        ensures { state_of result ≡ tells (S.AdversaryStructure.size self.now.rule.now) (S.AdversaryStructure.holding self.now.rule.now) self.now.shut (row_of self.now.slots.now) (state_of self.now.before) }
+    {
+        if !self.before.follows {
+            return self.before;
+        }
+        let word = read_slot(self.slots, Kind::King, self.king()).unwrap_or(0);
+        Core {
+            preferred: word.min(1),
+            ..self.before
+        }
+    }
+
+    // The position of the king.
+    fn king(&self) -> u8
+        ensures { result ≡ king_of (S.AdversaryStructure.size self.now.rule.now) self.now.shut }
+    {
+        // Kept as a cast, which is proved to lose nothing: what is left of a division by a byte is a byte.
+        ((self.shut / PHASE_ROUNDS) % u16::from(self.rule.processes())) as u8
+    }
 }
 
 // The step of the round after `shut` rounds, on the words in the slots.
@@ -81,9 +104,15 @@ fn king<S: AdversaryStructure>(rule: &S, shut: u16) -> u8
 pub fn step<S: AdversaryStructure>(rule: &S, shut: u16, slots: &[Option<u8>], before: Core) -> Core
     ensures { state_of result ≡ steps (S.AdversaryStructure.size rule.now) (S.AdversaryStructure.holding rule.now) shut (row_of slots.now) (state_of before) }
 {
+    let round = Round {
+        rule,
+        slots,
+        shut,
+        before,
+    };
     match Kind::of(shut) {
-        Kind::Unify => unified(rule, slots, before),
-        Kind::Exchange => exchanged(rule, slots, before),
-        Kind::King => told(rule, shut, slots, before),
+        Kind::Unify => round.unified(),
+        Kind::Exchange => round.exchanged(),
+        Kind::King => round.told(),
     }
 }
