@@ -30,6 +30,7 @@ fn place_of(index: usize) -> u16
     requires { index < most_pairs }
     ensures { result ≡ index + 1 }
 {
+    // Kept as a cast, which is proved to lose nothing: a try_from could not fail here.
     index as u16 + 1
 }
 
@@ -48,7 +49,7 @@ fn first_from<T, F: Fn(usize) -> Option<T>>(start: usize, end: usize, answer: F)
 }
 
 // Pairs that are to be listed, no more than a list has, for a crew of so many processes.
-#[derive(Clone, Copy)]
+#[derive(Clone, Copy, Debug)]
 struct Candidates<'a> {
     processes: u8,
     pairs: &'a [FaultPair],
@@ -134,7 +135,8 @@ fn check_list(processes: u16, pairs: &[FaultPair]) -> Result<u8, RuleRefusal>
     Ok(processes)
 }
 
-// The list of these pairs, where every test is passed.
+// The list of these pairs, where every test is passed. Its parameters are those of the one public call that hands
+// them on, so a struct of them would be no plainer.
 fn list_of(processes: u16, pairs: &[FaultPair]) -> Result<PairList, RuleRefusal>
     ensures answer { Judged (result_err result) processes pairs.now }
     ensures value { IfOk result (λ l. Has l processes pairs.now) }

@@ -27,7 +27,7 @@ impl Threshold {
         if u32::from(total) + 2 * u32::from(byzantine) >= u32::from(count) {
             return Err(RuleRefusal::TotalTooHigh);
         }
-        // Both are below the number of processes, so that the casts keep them.
+        // Kept as casts, which are proved to lose nothing, since both counts are below the number of processes.
         Ok(Threshold {
             processes: count,
             total: total as u8,

@@ -5,19 +5,14 @@ use report::report_of;
 use script::MAX_BYTES;
 use std::io::Read;
 
-// One byte more than a script may have is enough to see that it is too long.
+// One byte more than a script may have is enough to see that it is too long. A constant calls no function, hence the
+// cast.
 const READ_LIMIT: u64 = MAX_BYTES as u64 + 1;
 
-fn run(rt: &HostRuntime) -> anyhow::Result<()> {
+fn main(rt: HostRuntime) -> anyhow::Result<()> {
     let heap = rt.alloc();
     let mut script = Vec::new(heap);
-    let mut input = rt.stdin().take(READ_LIMIT);
-    input.read_to_end(&mut script)?;
-    let text = report_of(heap, script.as_slice())?;
-    rt.print(text)?;
+    rt.stdin().take(READ_LIMIT).read_to_end(&mut script)?;
+    rt.print(report_of(heap, &script)?)?;
     Ok(())
-}
-
-fn main(rt: HostRuntime) -> anyhow::Result<()> {
-    run(&rt)
 }

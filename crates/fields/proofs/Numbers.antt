@@ -1,44 +1,72 @@
--- A number read digit by digit.
-use Rattle.std.proofs.Common.{◌≡◌, ℕ, zero, suc, ◌+◌, ◌-◌, ◌*◌, ◌^◌, ◌<◌, ◌≤◌, ◌&&◌, leb, List, length, get_or, drop, Some, None, sym, ◌∙◌, subst, pow-suc, add-one, arith}
-use Rattle.std.proofs.lemmas.List.{at_drop_more, at_drop_all}
-use Rattle.std.proofs.lemmas.Bool.{cond-true, cond-false, le-leb, lt-leb, and_from, and_left, and_right}
+-- A number read from its digits.
+use Rattle.std.proofs.Common.{◌≡◌, ℕ, ◌+◌, ◌-◌, ◌*◌, ◌<◌, ◌≤◌, Bool, true, false, cond, ◌&&◌, leb, List, [], ◌∷◌, length, Some, None, Ok, Err, Result, IfSome, MatchResult, Bor, sym, ap, ◌∙◌, refl, arith, rules}
+use Rattle.std.specs.Char.{is_ascii_digit}
+use Rattle.std.specs.List.{list_all}
+use Rattle.std.specs.Option.{IsSomeAnd}
+use Rattle.std.specs.Result.{result_ok}
+use Rattle.std.specs.Str.{IsAscii, IsUtf8}
+use Rattle.std.specs.Str.Parse.{ParsesUnsigned}
+use Rattle.std.proofs.lemmas.Bool.{true≢false, cond-true, cond-false, cond_both, le-leb, lt-leb, and_from, and_right}
+use Rattle.std.proofs.lemmas.Str.{IsUtf8-from_ascii}
+use Rattle.std.proofs.lemmas.Str.Ascii.{IsAscii-nil, IsAscii-cons}
+use Rattle.std.proofs.lemmas.Str.Parse.{IsDigitsTest, IsNumeralModel, numerals_by_fold, parse_digits, digits_value_short}
 use Rattle.fields.specs.Fields.{digits_from, number_in}
 
-module _ (n : ℕ) (bs : List ℕ) (i : ℕ) where
-  pub digits_on : i < length bs → 48 ≤ get_or bs i 0 → get_or bs i 0 ≤ 57 → digits_from n (drop i bs) ≡ digits_from (10 * n + (get_or bs i 0 - 48)) (drop (i + 1) bs)
-  digits_on h low high =
-      let b = get_or bs i 0 in
-      at_drop_more (digits_from n) bs i 0 h ∙ cond-true (leb 48 b && leb b 57) _ _ (and_from _ _ (le-leb 48 b low) (le-leb b 57 high))
+-- the number that goes on after n with these digits
+abbrev read_on : ℕ → List ℕ → ℕ
+read_on n [] = n
+read_on n (b ∷ bs) = read_on (10 * n + (b - 48)) bs
 
-  pub digits_low : i < length bs → get_or bs i 0 < 48 → digits_from n (drop i bs) ≡ None
-  digits_low h low =
-      let b = get_or bs i 0 in
-      at_drop_more (digits_from n) bs i 0 h ∙ cond-false (leb 48 b && leb b 57) _ _ (and_left (leb 48 b) (leb b 57) (lt-leb 48 b low))
+abbrev AllDigits : List ℕ → Type 0
+AllDigits bs = list_all is_ascii_digit bs ≡ true
 
-  pub digits_high : i < length bs → 57 < get_or bs i 0 → digits_from n (drop i bs) ≡ None
-  digits_high h high =
-      let b = get_or bs i 0 in
-      at_drop_more (digits_from n) bs i 0 h ∙ cond-false (leb 48 b && leb b 57) _ _ (and_right (leb 48 b) (leb b 57) (lt-leb b 57 high))
+tells_own : IsDigitsTest AllDigits
+tells_own = search rules
 
-  pub digits_end : length bs ≤ i → digits_from n (drop i bs) ≡ Some n
-  digits_end h = at_drop_all (digits_from n) bs i h
+own : IsNumeralModel AllDigits (read_on 0)
+own = numerals_by_fold AllDigits tells_own read_on (search rules)
 
-  -- one digit more
-  pub ten_more : (d : ℕ) → n < 10 ^ i → d ≤ 9 → 10 * n + d < 10 ^ (i + 1)
-  ten_more d h few = subst (λ (k : ℕ). 10 * n + d < 10 ^ k) (sym (add-one i)) (omega (arith, pow-suc 10 i))
+digits_read : (n : ℕ) (bs : List ℕ) → AllDigits bs → digits_from n bs ≡ Some (read_on n bs)
+digits_read n [] h = refl
+digits_read n (b ∷ bs) h = by (is_ascii_digit b) h (digits_read (10 * n + (b - 48)) bs)
+  where
+    by : (t : Bool) → t && list_all is_ascii_digit bs ≡ true → (AllDigits bs → digits_from (10 * n + (b - 48)) bs ≡ Some (read_on (10 * n + (b - 48)) bs)) → cond t (digits_from (10 * n + (b - 48)) bs) None ≡ Some (read_on (10 * n + (b - 48)) bs)
+    by true h ih = ih h
+    by false h ih = absurd (true≢false (sym h))
 
-pub ten_few : (i n : ℕ) → i ≤ 3 → n < 10 ^ i → n < 1000
-ten_few zero n h l = omega arith
-ten_few (suc zero) n h l = omega arith
-ten_few (suc (suc zero)) n h l = omega arith
-ten_few (suc (suc (suc zero))) n h l = omega arith
-ten_few (suc (suc (suc (suc i)))) n h l = absurd (omega arith)
+digits_odd : (n : ℕ) (bs : List ℕ) → list_all is_ascii_digit bs ≡ false → digits_from n bs ≡ None
+digits_odd n [] h = absurd (true≢false h)
+digits_odd n (b ∷ bs) h = by (is_ascii_digit b) h (digits_odd (10 * n + (b - 48)) bs)
+  where
+    by : (t : Bool) → t && list_all is_ascii_digit bs ≡ false → (list_all is_ascii_digit bs ≡ false → digits_from (10 * n + (b - 48)) bs ≡ None) → cond t (digits_from (10 * n + (b - 48)) bs) None ≡ None
+    by true h ih = ih h
+    by false h ih = refl
 
-pub ten_small : (i n : ℕ) → i ≤ 2 → n < 10 ^ i → n < 100
-ten_small zero n h l = omega arith
-ten_small (suc zero) n h l = omega arith
-ten_small (suc (suc zero)) n h l = omega arith
-ten_small (suc (suc (suc i))) n h l = absurd (omega arith)
+digits_ascii : (bs : List ℕ) → AllDigits bs → IsAscii bs
+digits_ascii [] h = IsAscii-nil
+digits_ascii (b ∷ bs) h =
+    let p = tells_own.parts b bs h in
+    IsAscii-cons b bs (omega (arith, p.0.1)) (digits_ascii bs p.1)
 
-pub number_short : (bs : List ℕ) → 1 ≤ length bs → length bs ≤ 3 → number_in bs ≡ digits_from 0 bs
-number_short bs low high = cond-true (leb 1 (length bs) && leb (length bs) 3) _ _ (and_from _ _ (le-leb 1 (length bs) low) (le-leb (length bs) 3 high))
+digits_utf8 : (bs : List ℕ) → AllDigits bs → IsUtf8 bs
+digits_utf8 bs h = IsUtf8-from_ascii bs (digits_ascii bs h)
+
+pub number_long : (bs : List ℕ) → 3 < length bs → number_in bs ≡ None
+number_long bs h = cond-false (leb 1 (length bs) && leb (length bs) 3) _ _ (and_right (leb 1 (length bs)) (leb (length bs) 3) (lt-leb (length bs) 3 h))
+
+pub number_odd : (bs : List ℕ) → list_all is_ascii_digit bs ≡ false → number_in bs ≡ None
+number_odd bs h = cond_both (leb 1 (length bs) && leb (length bs) 3) _ _ (λ x. x ≡ None) (λ _. digits_odd 0 bs h) (λ _. refl)
+
+-- a text of digits is text
+pub digits_text : {E : Type 0} (Q : E → Type 0) (bs : List ℕ) (r : Result (Bor (List ℕ)) E) → MatchResult r (λ s. (s.now ≡ bs) × IsUtf8 bs) (λ e. ¬ (IsUtf8 bs) × Q e) → AllDigits bs → IsSomeAnd (result_ok r) (λ s. s.now ≡ bs)
+digits_text Q bs (Ok s) told h = told.0
+digits_text Q bs (Err e) told h = absurd (told.0 (digits_utf8 bs h))
+
+-- what `parse` gives of at most three digits
+pub number_parsed : {E : Type 0} (bs : List ℕ) (r : Result ℕ E) → ParsesUnsigned 16 10 bs r → AllDigits bs → length bs ≤ 3 → (result_ok r ≡ number_in bs) × IfSome (result_ok r) (λ n. n < 1000)
+number_parsed {E} bs (Ok n) p h few =
+    let told = parse_digits own {E = E} 16 bs (Ok n) p h in
+    let read : number_in bs ≡ digits_from 0 bs = cond-true (leb 1 (length bs) && leb (length bs) 3) _ _ (and_from _ _ (le-leb 1 (length bs) told.0.0) (le-leb (length bs) 3 few)) in
+    (ap Some told.1 ∙ sym (digits_read 0 bs h) ∙ sym read, omega (arith, digits_value_short own bs 3 h few, told.1))
+number_parsed [] (Err e) p h few = (refl, tt)
+number_parsed {E} (b ∷ bs) (Err e) p h few = absurd (parse_digits own {E = E} 16 (b ∷ bs) (Err e) p h (omega arith, omega (arith, digits_value_short own (b ∷ bs) 3 h few)))

@@ -1,42 +1,36 @@
 -- How a text is cut at a byte.
-use Rattle.std.proofs.Common.{◌≡◌, ℕ, suc, ◌+◌, ◌<◌, ◌≤◌, Bool, true, false, cond, eqb, List, [], ◌∷◌, length, get_or, take, drop, refl, ap, ◌∙◌, arith}
-use Rattle.std.proofs.lemmas.List.{at_drop_more, at_drop_all}
-use Rattle.std.proofs.lemmas.Bool.{cond-true, cond-false, cond_both, eq-eqb, ne_eqb}
-use Rattle.fields.specs.Fields.{onto, split, run}
-
--- the piece before the first stop, and the pieces of what follows it
-pub split_at : (stop : ℕ) (bs : List ℕ) → run stop bs < length bs → split stop bs ≡ take (run stop bs) bs ∷ split stop (drop (suc (run stop bs)) bs)
-split_at stop [] h = absurd (omega arith)
-split_at stop (b ∷ bs) h = by (eqb b stop) h (split_at stop bs)
-  where
-    by : (t : Bool) → cond t 0 (suc (run stop bs)) < suc (length bs) → (run stop bs < length bs → split stop bs ≡ take (run stop bs) bs ∷ split stop (drop (suc (run stop bs)) bs)) → cond t ([] ∷ split stop bs) (onto b (split stop bs)) ≡ take (cond t 0 (suc (run stop bs))) (b ∷ bs) ∷ split stop (drop (suc (cond t 0 (suc (run stop bs)))) (b ∷ bs))
-    by true h ih = refl
-    by false h ih = ap (onto b) (ih (omega arith))
+use Rattle.std.proofs.Common.{◌≡◌, ℕ, suc, ◌+◌, ◌<◌, ◌≤◌, Bool, true, false, cond, not, eqb, ltb, List, [], ◌∷◌, length, take, drop, Some, None, Option, MatchOption, refl, ap, arith, length-drop}
+use Rattle.std.specs.List.{onto_first, position_or_len}
+use Rattle.std.proofs.lemmas.Bool.{ltb-true, ltb-false}
+use Rattle.std.proofs.lemmas.List.Splits.{slice_split_first, length-slice_split}
+use Rattle.fields.specs.Fields.{split, Cut}
 
 -- where there is no stop, the text is the one piece
-pub split_whole : (stop : ℕ) (bs : List ℕ) → run stop bs ≡ length bs → split stop bs ≡ bs ∷ []
+split_whole : (stop : ℕ) (bs : List ℕ) → length bs ≤ position_or_len (λ b. eqb b stop) bs → split stop bs ≡ bs ∷ []
 split_whole stop [] h = refl
 split_whole stop (b ∷ bs) h = by (eqb b stop) h (split_whole stop bs)
   where
-    by : (t : Bool) → cond t 0 (suc (run stop bs)) ≡ suc (length bs) → (run stop bs ≡ length bs → split stop bs ≡ bs ∷ []) → cond t ([] ∷ split stop bs) (onto b (split stop bs)) ≡ (b ∷ bs) ∷ []
+    by : (t : Bool) → suc (length bs) ≤ cond (not t) (1 + position_or_len (λ x. eqb x stop) bs) 0 → (length bs ≤ position_or_len (λ x. eqb x stop) bs → split stop bs ≡ bs ∷ []) → cond t ([] ∷ split stop bs) (onto_first b (split stop bs)) ≡ (b ∷ bs) ∷ []
     by true h ih = absurd (omega arith)
-    by false h ih = ap (onto b) (ih (omega arith))
+    by false h ih = ap (onto_first b) (ih (omega arith))
 
--- the run, looked at from the byte at i
-pub run_found : (stop : ℕ) (bs : List ℕ) (i : ℕ) → i < length bs → get_or bs i 0 ≡ stop → run stop (drop i bs) ≡ 0
-run_found stop bs i h e = at_drop_more (run stop) bs i 0 h ∙ cond-true _ 0 _ (eq-eqb (get_or bs i 0) stop e)
+-- the piece before the first stop, and the pieces of what follows it
+split_cut : (stop : ℕ) (bs : List ℕ) (n : ℕ) → n ≡ position_or_len (λ b. eqb b stop) bs → n < length bs → (n < length bs) × Cut stop bs (take n bs) (drop (n + 1) bs)
+split_cut stop bs n e h =
+    let first = slice_split_first (λ b. eqb b stop) bs 0 (omega arith) in
+    let pieces : split stop bs ≡ take n bs ∷ split stop (drop (n + 1) bs) = rw e first in (
+      h,
+      record {
+        pieces = pieces;
+        more = omega (arith, ap length pieces, length-slice_split (λ b. eqb b stop) (drop (n + 1) bs));
+        shorter = omega (arith, length-drop (n + 1) bs);
+      },
+    )
 
-pub run_on : (stop : ℕ) (bs : List ℕ) (i : ℕ) → i < length bs → (get_or bs i 0 ≡ stop → ⊥) → run stop (drop i bs) ≡ suc (run stop (drop (i + 1) bs))
-run_on stop bs i h e = at_drop_more (run stop) bs i 0 h ∙ cond-false _ 0 _ (ne_eqb (get_or bs i 0) stop e)
-
-pub run_end : (stop : ℕ) (bs : List ℕ) (i : ℕ) → length bs ≤ i → run stop (drop i bs) ≡ 0
-run_end stop bs i h = at_drop_all (run stop) bs i h
-
--- there is always a piece
-pub split_some : (stop : ℕ) (bs : List ℕ) → 0 < length (split stop bs)
-split_some stop [] = omega arith
-split_some stop (b ∷ bs) = cond_both (eqb b stop) _ _ (λ ps. 0 < length ps) (λ e. omega arith) (λ e. some (split stop bs))
+-- what `position` tells of the first stop
+pub parted : (stop : ℕ) (bs : List ℕ) (r : Option ℕ) → r ≡ cond (ltb (position_or_len (λ b. eqb b stop) bs) (length bs)) (Some (position_or_len (λ b. eqb b stop) bs)) None → MatchOption r (split stop bs ≡ bs ∷ []) (λ n. (n < length bs) × Cut stop bs (take n bs) (drop (n + 1) bs))
+parted stop bs r e = by (position_or_len (λ b. eqb b stop) bs) refl (ltb (position_or_len (λ b. eqb b stop) bs) (length bs)) refl e
   where
-    some : (ps : List (List ℕ)) → 0 < length (onto b ps)
-    some [] = omega arith
-    some (p ∷ ps) = omega arith
+    by : (n : ℕ) → n ≡ position_or_len (λ b. eqb b stop) bs → (t : Bool) → ltb n (length bs) ≡ t → r ≡ cond t (Some n) None → MatchOption r (split stop bs ≡ bs ∷ []) (λ k. (k < length bs) × Cut stop bs (take k bs) (drop (k + 1) bs))
+    by n at true h k = rw k (split_cut stop bs n at (ltb-true n (length bs) h))
+    by n at false h k = rw k (split_whole stop bs (omega (arith, ltb-false n (length bs) h)))

@@ -1,29 +1,19 @@
 -- How a text is parted, and what a field means.
-use Rattle.std.specs.Prelude.{◌≡◌, ℕ, suc, ◌+◌, ◌-◌, ◌*◌, ◌<◌, cond, ◌&&◌, List, [], ◌∷◌, length, Some, None, codes, Option, ◌==◌, bit_or, nat_le}
+use Rattle.std.specs.Prelude.{◌≡◌, ℕ, ◌+◌, ◌-◌, ◌*◌, ◌<◌, cond, ◌&&◌, List, [], ◌∷◌, length, Some, None, codes, Option, ◌==◌, bit_or, nat_le}
+use Rattle.std.specs.List.{slice_split}
 use Rattle.std.specs.Str.{bytes_eq}
 use Rattle.sets.specs.Sets.{single, set_of}
 use Rattle.sets.specs.declared.process_set.ProcessSet.{ProcessSet}
 
--- a byte more at the front of the first piece
-abbrev pub onto : ℕ → List (List ℕ) → List (List ℕ)
-onto b [] = (b ∷ []) ∷ []
-onto b (p ∷ ps) = (b ∷ p) ∷ ps
-
 -- the pieces of a text between the bytes that are `stop`: always one piece more than there are such bytes
 abbrev pub split : ℕ → List ℕ → List (List ℕ)
-split stop [] = [] ∷ []
-split stop (b ∷ bs) = cond (b == stop) ([] ∷ split stop bs) (onto b (split stop bs))
+split stop bs = slice_split (λ b. b == stop) bs
 
 -- a text is cut at its first `stop` into a front and a rest
 pub record Cut (stop : ℕ) (bs front rest : List ℕ) : Type 0 where
   pub pieces : split stop bs ≡ front ∷ split stop rest
   pub more : 1 < length (split stop bs)
   pub shorter : length rest < length bs
-
--- how many bytes stand before the first `stop`
-abbrev pub run : ℕ → List ℕ → ℕ
-run stop [] = 0
-run stop (b ∷ bs) = cond (b == stop) 0 (suc (run stop bs))
 
 -- the three bytes that part a text
 abbrev pub line_feed : ℕ

@@ -65,7 +65,7 @@ pub enum Answer {
 pub type Reply = Option<Result<Answer, ProcessRefusal>>;
 
 // One call in a list: on which process, counted from 0, and what came of it.
-#[derive(Clone, Copy)]
+#[derive(Clone, Copy, Debug, PartialEq, Eq)]
 pub struct Entry {
     pub who: usize,
     pub call: Call,

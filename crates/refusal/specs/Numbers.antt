@@ -1,5 +1,5 @@
 -- The printed numbers, layers and places of all refusals.
-use Rattle.std.specs.Prelude.{List, ℕ, codes}
+use Rattle.std.specs.Prelude.{ℕ, List, codes, Option}
 use Rattle.refusal.specs.declared.place.Layer.{Layer}
 use Rattle.refusal.specs.declared.place.Layer.TheVariants as layer
 use Rattle.refusal.specs.declared.place.Place.{Place}
@@ -76,6 +76,6 @@ abbrev pub name_of : Layer → List ℕ
 name_of layer.Rule = codes "rule"
 name_of layer.Script = codes "script"
 
--- a cause with the line where it stands, or 0
-abbrev pub at_line : Cause → ℕ → Refusal
+-- a cause with the line where it stands, if it has one
+abbrev pub at_line : Cause → Option ℕ → Refusal
 at_line c k = record { cause = c; line = k }

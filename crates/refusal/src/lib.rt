@@ -1,4 +1,5 @@
 // Why something is refused: the cases of every layer, and how each is printed.
+// A number and a place are methods of each kind and no trait: nothing is written for refusals of any kind.
 #![tactic(auto)]
 
 mod place;

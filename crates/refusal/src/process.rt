@@ -4,7 +4,7 @@ ghost use Rattle.refusal.specs.Numbers.{process_number, process_place};
 
 use crate::place::Place;
 
-#[derive(Clone, Copy)]
+#[derive(Clone, Copy, Debug, PartialEq, Eq)]
 pub enum ProcessRefusal {
     // The stage forbids the call.
     Stage,
@@ -41,11 +41,11 @@ impl ProcessRefusal {
     {
         match self {
             ProcessRefusal::Stage => Place::Nowhere,
-            ProcessRefusal::Number(number) => Place::At(u16::from(number)),
-            ProcessRefusal::Bit(number) => Place::At(u16::from(number)),
-            ProcessRefusal::Round(number) => Place::At(u16::from(number)),
-            ProcessRefusal::King(number) => Place::At(u16::from(number)),
-            ProcessRefusal::Twice(number) => Place::At(u16::from(number)),
+            ProcessRefusal::Number(number)
+            | ProcessRefusal::Bit(number)
+            | ProcessRefusal::Round(number)
+            | ProcessRefusal::King(number)
+            | ProcessRefusal::Twice(number) => Place::At(u16::from(number)),
         }
     }
 }

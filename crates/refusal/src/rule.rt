@@ -4,7 +4,7 @@ ghost use Rattle.refusal.specs.Numbers.{rule_number, rule_place};
 
 use crate::place::Place;
 
-#[derive(Clone, Copy)]
+#[derive(Clone, Copy, Debug, PartialEq, Eq)]
 pub enum RuleRefusal {
     // The number of processes is not 1 to 16.
     Processes,

@@ -1,11 +1,14 @@
 // Why a script is refused.
-ghost use Rattle.std.specs.Prelude.{◌≡◌};
+ghost use Rattle.std.specs.Prelude.{◌≡◌, Some};
 ghost use Rattle.refusal.specs.Numbers.{number_of, layer_of, place_of};
+ghost use Rattle.refusal.specs.Texts.{refusal_words};
 
 use crate::place::{Layer, Place};
 use crate::rule::RuleRefusal;
+use std::error::Error;
+use std::fmt;
 
-#[derive(Clone, Copy)]
+#[derive(Clone, Copy, Debug, PartialEq, Eq)]
 pub enum Cause {
     // A line that has not the form of any.
     Malformed,
@@ -17,11 +20,11 @@ pub enum Cause {
     Rule(RuleRefusal),
 }
 
-// A cause and the line where it stands, or 0.
-#[derive(Clone, Copy)]
+// A cause, and the line where it stands, if it has one.
+#[derive(Clone, Copy, Debug, PartialEq, Eq)]
 pub struct Refusal {
     pub cause: Cause,
-    pub line: u16,
+    pub line: Option<u16>,
 }
 
 impl Refusal {
@@ -57,3 +60,18 @@ impl Refusal {
         }
     }
 }
+
+// `refused NUMBER LAYER PLACE LINE`, with 0 where there is no line.
+impl fmt::Display for Refusal {
+    ghost output = { λ x. Some (refusal_words x) };
+
+    fn fmt<W: fmt::Write>(&self, f: &mut fmt::Formatter<W>) -> fmt::Result {
+        let number = self.number();
+        let layer = self.layer();
+        let place = self.place();
+        let line = self.line.unwrap_or(0);
+        write!(f, "refused {number} {layer} {place} {line}")
+    }
+}
+
+impl Error for Refusal {}

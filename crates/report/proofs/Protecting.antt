@@ -10,10 +10,10 @@ use Rattle.std.proofs.lemmas.Bool.{true≢false}
 use Rattle.adversary.specs.ListLaws.{sized, adopted, list_lawful}
 use Rattle.adversary.specs.Search.{or_else_none}
 use Rattle.adversary.specs.ThresholdLaws.{accepted, threshold_lawful, both_lawful}
-use Rattle.script.specs.declared.draft.Counts.{Counts}
-use Rattle.script.specs.declared.draft.Seats.{Seats}
+use Rattle.script.specs.declared.line.Counts.{Counts}
+use Rattle.script.specs.declared.located.Located.{Located}
 use Rattle.script.specs.Refusals.{and_then}
-use Rattle.script.specs.Sheets.{Sheet, script_read}
+use Rattle.script.specs.Sheets.{Sheet, pairs_of, counts_of, script_read}
 use Rattle.report.specs.Protection.{holding, Protected}
 use Rattle.report.specs.Verdicts.{ruleless, pairs_part, count_part, settled, judged_with, judged, judgement}
 
@@ -44,7 +44,7 @@ parts_good n (x ∷ ps) (Some c) r p q =
     let t = counted_good n c.total c.byzantine q in
     (l.0, both_lawful n n (listed (x ∷ ps)) (within n c.total c.byzantine) l.1 t.1)
 
-settled_ok : (s : Sheet) (q : Seats) (o : Option RuleRefusal) (n : ℕ) → settled s q o ≡ Ok n → (o ≡ None) × (q.number ≡ n)
+settled_ok : (s : Sheet) (q : Located ℕ) (o : Option RuleRefusal) (n : ℕ) → settled s q o ≡ Ok n → (o ≡ None) × (q.value ≡ n)
 settled_ok s q None n e = (refl, cc)
 settled_ok s q (Some r) n e = ok_is_not n _ _ e
 
@@ -52,18 +52,18 @@ cond_ok : (b : Bool) (e : Refusal) (r : Result ℕ Refusal) (n : ℕ) → cond b
 cond_ok true e r n h = ok_is_not n e _ h
 cond_ok false e r n h = (refl, h)
 
-judged_good : (s : Sheet) (o : Option Seats) (n : ℕ) → judged_with s o ≡ Ok n → Good n s.pairs s.count
+judged_good : (s : Sheet) (o : Option (Located ℕ)) (n : ℕ) → judged_with s o ≡ Ok n → Good n (pairs_of s) (counts_of s)
 judged_good s None n e = ok_is_not n _ _ e
 judged_good s (Some q) n e =
-    let a = cond_ok (ruleless s.pairs s.count) _ _ n e in
+    let a = cond_ok (ruleless (pairs_of s) (counts_of s)) _ _ n e in
     let b = settled_ok s q _ n a.1 in
-    let c = or_else_none (pairs_part q.number s.pairs) (count_part q.number s.count) b.0 in
-    subst (λ m. Good m s.pairs s.count) b.1 (parts_good q.number s.pairs s.count a.0 c.0 c.1)
+    let c = or_else_none (pairs_part q.value (pairs_of s)) (count_part q.value (counts_of s)) b.0 in
+    subst (λ m. Good m (pairs_of s) (counts_of s)) b.1 (parts_good q.value (pairs_of s) (counts_of s) a.0 c.0 c.1)
 
 read_good : (bs : List ℕ) (r : Result Sheet Refusal) (n : ℕ) → script_read bs ≡ r → and_then r judged ≡ Ok n → Protected bs n
 read_good bs (Ok s) n e h =
     let g = judged_good s s.seats n h in
-    record { size = g.0; laws = λ s' e'. let same : s ≡ s' = cc in subst (λ (x : Sheet). Lawful n (holding n x.pairs x.count)) same g.1 }
+    record { size = g.0; laws = λ s' e'. let same : s ≡ s' = cc in subst (λ (x : Sheet). Lawful n (holding n (pairs_of x) (counts_of x))) same g.1 }
 read_good bs (Err x) n e h = ok_is_not n x _ h
 
 pub protecting : (bs : List ℕ) (n : ℕ) → judgement bs ≡ Ok n → Protected bs n

@@ -3,8 +3,8 @@ use Rattle.std.specs.Prelude.{◌≡◌, ℕ, Bool, true, List, [], ◌∷◌, S
 use Rattle.sets.specs.declared.fault_pair.FaultPair.{FaultPair}
 use Rattle.adversary.specs.Laws.{Sized, Lawful}
 use Rattle.adversary.specs.Rules.{listed, within, both}
-use Rattle.script.specs.declared.draft.Counts.{Counts}
-use Rattle.script.specs.Sheets.{Sheet, script_read}
+use Rattle.script.specs.declared.line.Counts.{Counts}
+use Rattle.script.specs.Sheets.{Sheet, pairs_of, counts_of, script_read}
 
 -- the pairs that n processes with these listed pairs and these counts hold: what each part that is there holds
 abbrev pub holding : ℕ → List FaultPair → Option Counts → ℕ → ℕ → Bool
@@ -16,4 +16,4 @@ holding n (p ∷ ps) (Some c) = both (listed (p ∷ ps)) (within n c.total c.byz
 -- n processes are protected under the rule of these bytes: whatever they give, it is a lawful rule for n
 pub record Protected (bs : List ℕ) (n : ℕ) : Type 0 where
   pub size : Sized n
-  pub laws : (s : Sheet) → script_read bs ≡ Ok s → Lawful n (holding n s.pairs s.count)
+  pub laws : (s : Sheet) → script_read bs ≡ Ok s → Lawful n (holding n (pairs_of s) (counts_of s))

@@ -1,12 +1,18 @@
 -- One line more of a script.
-use Rattle.std.proofs.Common.{◌≡◌, ℕ, suc, ◌<◌, List, [], ◌∷◌, length, IsErrAnd, Ok, Err, Result, sym, refl, ap, ◌∙◌, subst, arith, MatchResult}
+use Rattle.std.proofs.Common.{◌≡◌, ◌≢◌, ℕ, suc, ◌+◌, ◌<◌, false, eqb, min, List, [], ◌∷◌, ◌++◌, length, get_or, take, drop, IsErrAnd, Ok, Err, Some, None, Option, Result, Bor, MatchOption, sym, refl, ap, ap₂, ◌∙◌, subst, arith, MatchResult, append_assoc, drop-cons, length-append}
+use Rattle.std.specs.List.{All, IsFirstMatchOrLen}
+use Rattle.std.specs.Option.{ok_or}
+use Rattle.std.proofs.lemmas.Bool.{cond-true, lt-ltb, eqb-true}
+use Rattle.std.proofs.lemmas.List.{at_drop_all, get_or_append_left, take-append-drop}
+use Rattle.std.proofs.lemmas.List.Splits.{slice_split_at, slice_split_none, length-slice_split}
 use Rattle.script.specs.declared.fault.Fault.{Fault}
 use Rattle.script.specs.declared.fault.Fault.TheVariants.{Refused, Memory}
+use Rattle.refusal.specs.declared.script.Cause.TheVariants.{Malformed}
 use Rattle.refusal.specs.declared.script.Refusal.{Refusal}
+use Rattle.refusal.specs.Numbers.{at_line}
 use Rattle.fields.specs.Fields.{split, line_feed, Cut}
 use Rattle.script.specs.Refusals.{Refuses, and_then}
 use Rattle.script.specs.Sheets.{Sheet, line_read, lines_read}
-use Rattle.fields.proofs.Parting.{split_some}
 
 -- the exit of a `?` that hands a fault on
 pub handed : {T : Type 0} (r : Result T Fault) (f : Fault) (P : T → Type 0) (Q : Refusal → Type 0) → IsErrAnd r (λ y. y ≡ f) → Refuses f Q → MatchResult r P (λ y. Refuses y Q)
@@ -17,19 +23,67 @@ pub refuses_map : (f : Fault) (P Q : Refusal → Type 0) → ((e : Refusal) → 
 refuses_map (Refused e) P Q g p = g e p
 refuses_map Memory P Q g p = tt
 
+-- the pieces that `split_inclusive` gives: this one is the first of bs, and i is the place of its last byte, or past the end
+module _ (bs line rest : List ℕ) (i : ℕ) (whole : bs ≡ line ++ rest) (long : length line ≡ min (i + 1) (length bs)) (first : IsFirstMatchOrLen (λ b. eqb b line_feed) bs i) where
+  -- it ends in a line feed
+  ended : (text : List ℕ) → line ≡ text ++ line_feed ∷ [] → Cut line_feed bs text rest
+  ended text e =
+      let parts : bs ≡ text ++ line_feed ∷ rest = whole ∙ ap (λ l. l ++ rest) e ∙ append_assoc text (line_feed ∷ []) rest in
+      let none : All (λ x. eqb x line_feed ≡ false) text =
+      λ k d h. rw (← get_or_append_left text (line_feed ∷ rest) d k h, ← parts) (first.0 k d (omega arith) (omega (arith, ap length e, length-append text (line_feed ∷ [])))) in
+      let pieces : split line_feed bs ≡ text ∷ split line_feed rest = rw parts (slice_split_at _ text line_feed rest none refl) in
+      record {
+        pieces = pieces;
+        more = omega (arith, ap length pieces, length-slice_split (λ b. eqb b line_feed) rest);
+        shorter = omega (arith, ap length parts, length-append text (line_feed ∷ rest));
+      }
+
+  -- it does not, so it is all there is
+  endless : ((front : List ℕ) → line ≢ front ++ line_feed ∷ []) → split line_feed bs ≡ bs ∷ []
+  endless h =
+      let past : i < length bs → ⊥ =
+      λ q. let at : i < length line = omega arith in
+      let byte : get_or line i line_feed ≡ line_feed = sym (ap (λ l. get_or l i line_feed) whole ∙ get_or_append_left line rest line_feed i at) ∙ eqb-true _ _ (first.1 q line_feed) in
+      let last : drop i line ≡ line_feed ∷ [] = drop-cons line i line_feed at ∙ ap₂ (λ b l. b ∷ l) byte (at_drop_all (λ l. l) line (suc i) (omega arith)) in
+      h (take i line) (sym (take-append-drop i line) ∙ ap (λ l. take i line ++ l) last) in
+      slice_split_none _ bs (λ k d g. first.0 k d (omega arith) (omega (arith, past)))
+
+  -- `strip_suffix` tells which
+  module _ (stripped : Option (Bor (List ℕ))) (cases : MatchOption stripped ((front : List ℕ) → line ≢ front ++ line_feed ∷ []) (λ x. line ≡ x.now ++ line_feed ∷ [])) (e : Refusal) where
+    pub piece_cut : (text : Bor (List ℕ)) → ok_or stripped e ≡ Ok text → Cut line_feed bs text.now rest
+    piece_cut text h = by stripped cases h
+      where
+        by : (o : Option (Bor (List ℕ))) → MatchOption o ((front : List ℕ) → line ≢ front ++ line_feed ∷ []) (λ x. line ≡ x.now ++ line_feed ∷ []) → ok_or o e ≡ Ok text → Cut line_feed bs text.now rest
+        by None c k = cc
+        by (Some x) c k = let same : x ≡ text = cc in subst (λ (y : Bor (List ℕ)). Cut line_feed bs y.now rest) same (ended x.now c)
+
+    pub piece_whole : (f : Refusal) → ok_or stripped e ≡ Err f → (split line_feed bs ≡ bs ∷ []) × (e ≡ f)
+    piece_whole f h = by stripped cases h
+      where
+        by : (o : Option (Bor (List ℕ))) → MatchOption o ((front : List ℕ) → line ≢ front ++ line_feed ∷ []) (λ x. line ≡ x.now ++ line_feed ∷ []) → ok_or o e ≡ Err f → (split line_feed bs ≡ bs ∷ []) × (e ≡ f)
+        by None c k = (endless c, cc)
+        by (Some x) c k = cc
+
 -- a line that is not the last piece
 lines_more : (s : Sheet) (k : ℕ) (t : List ℕ) (ps : List (List ℕ)) → 0 < length ps → lines_read s k (t ∷ ps) ≡ and_then (line_read s (suc k) t) (λ s'. lines_read s' (suc k) ps)
 lines_more s k t [] h = absurd (omega arith)
 lines_more s k t (p ∷ ps) h = refl
 
--- the line before the first line feed is read first
-lines_first : (s : Sheet) (k : ℕ) (bs front rest : List ℕ) (r : Result Sheet Refusal) → Cut line_feed bs front rest → line_read s (suc k) front ≡ r → lines_read s k (split line_feed bs) ≡ and_then r (λ s'. lines_read s' (suc k) (split line_feed rest))
-lines_first s k bs front rest r c h =
-    ap (lines_read s k) c.pieces ∙ lines_more s k front (split line_feed rest) (split_some line_feed rest)
-    ∙ ap (λ (x : Result Sheet Refusal). and_then x (λ s'. lines_read s' (suc k) (split line_feed rest))) h
+module _ (s : Sheet) (k n : ℕ) (next : suc k ≡ n) (bs : List ℕ) where
+  -- what is there has no end
+  pub lines_end : 0 < length bs → split line_feed bs ≡ bs ∷ [] → lines_read s k (split line_feed bs) ≡ Err (at_line Malformed (Some n))
+  lines_end h e = ap (lines_read s k) e ∙ cond-true _ _ _ (lt-ltb 0 (length bs) h) ∙ ap (λ m. Err (at_line Malformed (Some m))) next
 
-pub lines_stop : (s : Sheet) (k : ℕ) (bs front rest : List ℕ) (e : Refusal) → Cut line_feed bs front rest → line_read s (suc k) front ≡ Err e → lines_read s k (split line_feed bs) ≡ Err e
-lines_stop s k bs front rest e c h = lines_first s k bs front rest (Err e) c h
+  -- the line before the first line feed is read first
+  module _ (front rest : List ℕ) (c : Cut line_feed bs front rest) where
+    lines_first : (r : Result Sheet Refusal) → line_read s n front ≡ r → lines_read s k (split line_feed bs) ≡ and_then r (λ s'. lines_read s' n (split line_feed rest))
+    lines_first r h =
+        ap (lines_read s k) c.pieces ∙ lines_more s k front (split line_feed rest) (omega (arith, length-slice_split (λ b. eqb b line_feed) rest))
+        ∙ ap (λ m. and_then (line_read s m front) (λ s'. lines_read s' m (split line_feed rest))) next
+        ∙ ap (λ (x : Result Sheet Refusal). and_then x (λ s'. lines_read s' n (split line_feed rest))) h
 
-pub lines_go : (s s' : Sheet) (k : ℕ) (bs front rest : List ℕ) → Cut line_feed bs front rest → line_read s (suc k) front ≡ Ok s' → lines_read s k (split line_feed bs) ≡ lines_read s' (suc k) (split line_feed rest)
-lines_go s s' k bs front rest c h = lines_first s k bs front rest (Ok s') c h
+    pub lines_stop : (e : Refusal) → line_read s n front ≡ Err e → lines_read s k (split line_feed bs) ≡ Err e
+    lines_stop e h = lines_first (Err e) h
+
+    pub lines_go : (s' : Sheet) → line_read s n front ≡ Ok s' → lines_read s k (split line_feed bs) ≡ lines_read s' n (split line_feed rest)
+    lines_go s' h = lines_first (Ok s') h

@@ -36,7 +36,7 @@ pair_entry (a ∷ f ∷ g ∷ fs) = None
 abbrev pub count_entry : List (List ℕ) → Option Entry
 count_entry [] = None
 count_entry (t ∷ []) = None
-count_entry (t ∷ b ∷ []) = then (number_in t) (λ x. then (number_in b) (λ y. Some (entry.Count x y)))
+count_entry (t ∷ b ∷ []) = then (number_in t) (λ x. then (number_in b) (λ y. Some (entry.Count record { total = x; byzantine = y })))
 count_entry (t ∷ b ∷ c ∷ fs) = None
 
 -- what a line with these fields says; nothing where it has not the form of any

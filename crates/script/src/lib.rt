@@ -4,7 +4,9 @@
 mod draft;
 mod fault;
 mod line;
+mod located;
 
-pub use draft::{Counts, Draft, MAX_BYTES, Seats};
+pub use draft::{Draft, MAX_BYTES};
 pub use fault::Fault;
-pub use line::{Entry, Line};
+pub use line::{Counts, Entry, Line};
+pub use located::Located;

@@ -6,7 +6,7 @@ ghost use Rattle.script.specs.Lines.{fields_of, line_of, seats_entry, pair_entry
 use fields::{BLANK, is_text, number, process_set, split_once};
 use sets::FaultPair;
 
-#[derive(Clone, Copy)]
+#[derive(Clone, Copy, Debug, PartialEq, Eq)]
 pub enum Line<'a> {
     Seats {
         count: &'a [u8],
@@ -24,12 +24,19 @@ pub enum Line<'a> {
     },
 }
 
+// The counts of a threshold.
+#[derive(Clone, Copy, Debug, PartialEq, Eq)]
+pub struct Counts {
+    pub total: u16,
+    pub byzantine: u16,
+}
+
 // What a line says.
-#[derive(Clone, Copy)]
+#[derive(Clone, Copy, Debug, PartialEq, Eq)]
 pub enum Entry {
     Seats(u16),
     Pair(FaultPair),
-    Count(u16, u16),
+    Count(Counts),
 }
 
 // The one field of a text, where it has just one.
@@ -57,48 +64,29 @@ impl<'a> Line<'a> {
         ensures { MatchOption result (entry_of (split blank text.now) ≡ None) (λ l. (fields_of l ≡ split blank text.now) × (line_of l ≡ line)) }
     {
         let (word, fields) = split_once(text, BLANK)?;
-        if is_text(word, "seats") {
-            return Line::seats(fields, line);
+        match word {
+            b"seats" => {
+                let count = one_field(fields)?;
+                Some(Line::Seats { count, line })
+            }
+            b"pair" => {
+                let (byzantine, failing) = two_fields(fields)?;
+                Some(Line::Pair {
+                    byzantine,
+                    failing,
+                    line,
+                })
+            }
+            b"count" => {
+                let (total, byzantine) = two_fields(fields)?;
+                Some(Line::Count {
+                    total,
+                    byzantine,
+                    line,
+                })
+            }
+            _ => None,
         }
-        if is_text(word, "pair") {
-            return Line::pair(fields, line);
-        }
-        if is_text(word, "count") {
-            return Line::count(fields, line);
-        }
-        None
-    }
-
-    // `seats N`
-    fn seats(fields: &'a [u8], line: u16) -> Option<Line<'a>>
-        ensures { MatchOption result (seats_entry (split blank fields.now) ≡ None) (λ l. (fields_of l ≡ codes "seats" ∷ split blank fields.now) × (line_of l ≡ line)) }
-    {
-        let count = one_field(fields)?;
-        Some(Line::Seats { count, line })
-    }
-
-    // `pair A F`
-    fn pair(fields: &'a [u8], line: u16) -> Option<Line<'a>>
-        ensures { MatchOption result (pair_entry (split blank fields.now) ≡ None) (λ l. (fields_of l ≡ codes "pair" ∷ split blank fields.now) × (line_of l ≡ line)) }
-    {
-        let (byzantine, failing) = two_fields(fields)?;
-        Some(Line::Pair {
-            byzantine,
-            failing,
-            line,
-        })
-    }
-
-    // `count T B`
-    fn count(fields: &'a [u8], line: u16) -> Option<Line<'a>>
-        ensures { MatchOption result (count_entry (split blank fields.now) ≡ None) (λ l. (fields_of l ≡ codes "count" ∷ split blank fields.now) × (line_of l ≡ line)) }
-    {
-        let (total, byzantine) = two_fields(fields)?;
-        Some(Line::Count {
-            total,
-            byzantine,
-            line,
-        })
     }
 
     // What the line says, where its fields are of their form.
@@ -111,16 +99,18 @@ impl<'a> Line<'a> {
                 byzantine,
                 failing,
                 ..
-            } => {
-                let byzantine = process_set(byzantine)?;
-                let failing = process_set(failing)?;
-                Some(Entry::Pair(FaultPair { byzantine, failing }))
-            }
+            } => Some(Entry::Pair(FaultPair {
+                byzantine: process_set(byzantine)?,
+                failing: process_set(failing)?,
+            })),
             Line::Count {
                 total,
                 byzantine,
                 ..
-            } => Some(Entry::Count(number(total)?, number(byzantine)?)),
+            } => Some(Entry::Count(Counts {
+                total: number(total)?,
+                byzantine: number(byzantine)?,
+            })),
         }
     }
 

@@ -117,6 +117,7 @@ fn low_bits(count: u8) -> Mask
     requires { count ≤ limit }
     ensures { result ≡ full count }
 {
+    // Kept as a cast, which is proved to lose nothing: no From narrows a number, and a try_from could not fail here.
     ((1u32 << count) - 1) as Mask
 }
 

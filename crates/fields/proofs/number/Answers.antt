@@ -1,40 +1,32 @@
-use Rattle.std.proofs.Common.{◌≡◌, ℕ, ◌+◌, ◌*◌, length, drop, sym, ap, ◌∙◌, arith}
-use Rattle.std.proofs.lemmas.Bool.{eqb-false}
-use Rattle.fields.specs.Fields.{digits_from}
-use Rattle.fields.proofs.Numbers.{digits_on, digits_low, digits_high, digits_end, ten_more, ten_few, number_short}
+use Rattle.std.proofs.Common.{rules, tests, arith, sym, ◌∙◌}
+use Rattle.std.specs.Char.{is_ascii_digit}
+use Rattle.std.proofs.lemmas.Iterator.{YieldsList-from_slice}
+use Rattle.std.proofs.lemmas.Iterator.Search.{all_from_yields_List}
+use Rattle.fields.proofs.Numbers.{digits_text, number_long, number_odd, number_parsed}
 use Rattle.fields.proofs.number.Goals as goal
-use Rattle.fields.proofs.number.Goals.{then-b-lt48-via-then-b-lt48, then-b-lt48-via-else-b-lt48+then-b-gt57}
+use Rattle.fields.proofs.number.Goals.{then-field-gt-MAX_DIGITS-via-then-field-gt-MAX_DIGITS, then-field-gt-MAX_DIGITS-via-else-field-gt-MAX_DIGITS+then-not-all}
 
-pub returns-then-b-lt48 : goal.returns-then-b-lt48
-returns-then-b-lt48 c =
-    let n = c.loop-b.n in
-    let bs = c.args.field.now in
-    let i = c.loop-b.b-index in
-    let ne = eqb-false (length bs) 0 (sym c.if-is_empty.ensures) in
-    let short = number_short bs (omega arith) (omega (arith, c.if-field-gt-MAX_DIGITS.false)) in
-    let bad : digits_from n (drop i bs) ≡ _ =
-    elim c.then-b-lt48.branch [
-      | then-b-lt48-via-then-b-lt48 w ↦ digits_low n bs i c.loop-b-test.true w.if-b-lt48.true
-      | then-b-lt48-via-else-b-lt48+then-b-gt57 w ↦ digits_high n bs i c.loop-b-test.true w.if-b-gt57.true
-    ] in
-    record { value = sym bad ∙ c.loop-b.invariant.1 ∙ sym short; small = tt }
+pub returns-then-field-gt-MAX_DIGITS-clause-value : goal.returns-then-field-gt-MAX_DIGITS-clause-value
+returns-then-field-gt-MAX_DIGITS-clause-value c =
+    elim c.then-field-gt-MAX_DIGITS.branch [
+      | then-field-gt-MAX_DIGITS-via-then-field-gt-MAX_DIGITS w ↦ sym (number_long c.args.field.now w.if-field-gt-MAX_DIGITS.true)
+      | then-field-gt-MAX_DIGITS-via-else-field-gt-MAX_DIGITS+then-not-all w ↦
+          let told = all_from_yields_List is_ascii_digit _ _ w.all.result w.all.ensures.ran (YieldsList-from_slice c.args.field.now cc) (λ x b q k. search (rules, tests)) in
+          sym (number_odd c.args.field.now (sym told ∙ w.if-not-all.true))
+    ]
 
-pub loop-b-preserved : goal.loop-b-preserved
-loop-b-preserved c =
-    let n = c.loop-b.n in
-    let bs = c.args.field.now in
-    let i = c.loop-b.b-index in
-    let d = c.from.result in
-    let on = digits_on n bs i c.loop-b-test.true c.if-b-lt48.false c.if-b-gt57.false in (
-      ten_more n bs i d c.loop-b.invariant.0 (omega (arith, c.from.ensures)),
-      ap (λ (x : ℕ). digits_from (10 * n + x) (drop (i + 1) bs)) c.from.ensures ∙ sym on ∙ c.loop-b.invariant.1,
-    )
+pub returns-in_err-ok-clause-value : goal.returns-in_err-ok-clause-value
+returns-in_err-ok-clause-value c =
+    let told = all_from_yields_List is_ascii_digit _ _ c.all.result c.all.ensures.ran (YieldsList-from_slice c.args.field.now cc) (λ x b q k. search (rules, tests)) in
+    let text = digits_text _ c.args.field.now c.from_utf8.result c.from_utf8.ensures.cases (sym told ∙ c.if-not-all.false) in
+    absurd (rw (← c.ok.ensures.value, c.in_err-ok.was) at text)
 
 pub returns : goal.returns
 returns c =
-    let n = c.loop-b.n in
     let bs = c.args.field.now in
-    let i = c.loop-b.b-index in
-    let ne = eqb-false (length bs) 0 (sym c.if-is_empty.ensures) in
-    let short = number_short bs (omega arith) (omega (arith, c.if-field-gt-MAX_DIGITS.false)) in
-    record { value = sym (digits_end n bs i c.loop-b-test.false) ∙ c.loop-b.invariant.1 ∙ sym short; small = ten_few i n (omega arith) c.loop-b.invariant.0 }
+    let told = all_from_yields_List is_ascii_digit _ _ c.all.result c.all.ensures.ran (YieldsList-from_slice bs cc) (λ x b q k. search (rules, tests)) in
+    let digits = sym told ∙ c.if-not-all.false in
+    let text = digits_text _ bs c.from_utf8.result c.from_utf8.ensures.cases digits in
+    let same = rw (← c.ok.ensures.value, c.in_ok-ok.was) at text in
+    let read = number_parsed bs c.parse.result (rw same at c.parse.ensures.value.0) digits (omega (arith, c.if-field-gt-MAX_DIGITS.false)) in
+    record { value = c.ok-2.ensures.value ∙ read.0; small = rw c.ok-2.ensures.value read.1 }

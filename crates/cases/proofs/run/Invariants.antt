@@ -1,5 +1,0 @@
-use Rattle.std.proofs.Common.{length}
-use Rattle.cases.proofs.run.Given as goal
-
-abbrev pub decreases-loop-script : goal.decreases-loop-script
-decreases-loop-script l = length l.rest
