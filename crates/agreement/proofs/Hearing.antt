@@ -1,6 +1,7 @@
 -- What correct processes hear of each other, and whom they detect.
-use Rattle.std.proofs.Common.{◌≡◌, ℕ, zero, suc, ◌<◌, ◌≤◌, Bool, true, false, not, eqb, ltb, ◌⊎◌, Some, None, sym, refl, subst, inl, inr, ⊎_elim, arith}
-use Rattle.std.proofs.lemmas.Bool.{cases_eq, cases_lt, and_parts, and_from, or_cases, or_left, or_right, not_from_false, eqb-true, eq-eqb, ltb-true, lt-ltb, true≢false}
+use Rattle.std.proofs.Common.{◌≡◌, ℕ, zero, suc, ◌<◌, ◌≤◌, Bool, true, false, ◌⊎◌, Some, None, sym, refl, subst, inl, inr, ⊎_elim, arith}
+use Rattle.std.proofs.lemmas.Bool.{cases_eq, true≢false}
+use Rattle.std.proofs.lemmas.Bool.Decides.{nat_tests}
 use Rattle.sets.specs.Sets.{has}
 use Rattle.history.specs.Protocols.{History, state}
 use Rattle.history.specs.Schedules.{Schedule, correct, Through, Message, Heard, Keeps}
@@ -44,30 +45,22 @@ module _ (n : ℕ) (held : ℕ → ℕ → Bool) (h : History) (c : Schedule) wh
   abbrev pub Quiet : ℕ → Type 0
   Quiet k = (r : ℕ) → r < n → Honest r → c.last r ≡ suc k → ⊥
 
-  lasting : (r k : ℕ) → correct c r k ≡ true → (c.last r ≡ 0) ⊎ (k < c.last r)
-  lasting r k e = ⊎_elim (λ t. inl (eqb-true (c.last r) 0 t)) (λ t. inr (ltb-true k (c.last r) t)) (or_cases (eqb (c.last r) 0) (ltb k (c.last r)) (and_parts _ _ e).1)
-
   correct_from : (r k : ℕ) → Honest r → (c.last r ≡ 0) ⊎ (k < c.last r) → correct c r k ≡ true
-  correct_from r k e l =
-      and_from (not (has c.byzantine r)) _ (not_from_false _ e) (⊎_elim (λ z. or_left (eqb (c.last r) 0) (ltb k (c.last r)) (eq-eqb (c.last r) 0 z)) (λ t. or_right (eqb (c.last r) 0) _ (lt-ltb k (c.last r) t)) l)
+  correct_from r k e l = grind (arith, nat_tests)
 
   -- who is correct after more rounds was so after fewer
   pub correct_before : (r k j : ℕ) → j ≤ k → correct c r k ≡ true → correct c r j ≡ true
-  correct_before r k j few e = correct_from r j (honest_by c r k e) (⊎_elim inl (λ l. inr (omega arith)) (lasting r k e))
+  correct_before r k j few e = grind (arith, nat_tests)
 
   pub done_before : (p k j : ℕ) → j ≤ k → Done p k → Done p j
   done_before p k j few d = record { known = d.known; closed = omega (arith, d.closed); right = correct_before p k j few d.right }
 
   -- who is not Byzantine is correct, or has failed
   pub fate : (r k : ℕ) → Honest r → (correct c r k ≡ true) ⊎ Failed r k
-  fate r k e =
-      ⊎_elim
-      (λ z. inl (correct_from r k e (inl z)))
-      (λ z. ⊎_elim (λ l. inl (correct_from r k e (inr l))) (λ l. inr (omega arith, l)) (cases_lt k (c.last r)))
-      (cases_eq (c.last r) 0)
+  fate r k e = grind (arith, nat_tests)
 
   pub not_both : (r k : ℕ) → correct c r k ≡ true → Failed r k → ⊥
-  not_both r k e f = ⊎_elim (λ z. omega (arith, f.0)) (λ l. omega (arith, f.1)) (lasting r k e)
+  not_both r k e f = grind (arith, nat_tests)
 
   -- every start bit of a process that is not Byzantine is a bit
   abbrev pub Bits : Type 0

@@ -1,7 +1,7 @@
 -- Who is caught in a round, and who said what.
-use Rattle.std.proofs.Common.{◌≡◌, ℕ, ◌<◌, ◌≤◌, Bool, true, false, cond, not, ◌&&◌, ◌||◌, ltb, leb, ◌⊎◌, is_some, Some, None, Option, sym, refl, ap, ◌∙◌, inl, inr, ⊎_elim, arith}
-use Rattle.std.proofs.lemmas.Bool.{cases_Bool, cond-true, and_parts, and_from, or_cases, or_right, ltb-true, lt-ltb, leb-true, le-leb, eqb-true, eq-eqb, not-true, not_from_false}
-use Rattle.adversary.specs.ListLaws.{unless}
+use Rattle.std.proofs.Common.{◌≡◌, ℕ, ◌<◌, ◌≤◌, true, false, not, ◌&&◌, ◌||◌, ltb, leb, ◌⊎◌, is_some, Some, None, Option, sym, refl, ap, ◌∙◌, inl, inr, ⊎_elim, arith}
+use Rattle.std.proofs.lemmas.Bool.{cases_Bool, cond-true, and_parts, ltb-true, le-leb, not-true}
+use Rattle.std.proofs.lemmas.Bool.Decides.{nat_tests}
 use Rattle.sets.specs.Sets.{has}
 use Rattle.sets.proofs.Masks.{has_or, has_mask}
 use Rattle.agreement.specs.Step.{reading, says, caught, saying}
@@ -12,23 +12,10 @@ reading_word most w h = cond-true (leb w most) _ _ (le-leb w most h)
 
 -- what is read was said, and counts
 pub reading_from : (most w : ℕ) (o : Option ℕ) → reading most o ≡ Some w → (o ≡ Some w) × (w ≤ most)
-reading_from most w None e = cc
-reading_from most w (Some x) e = by (leb x most) refl e
-  where
-    by : (b : Bool) → leb x most ≡ b → cond b (Some x) None ≡ Some w → (Some x ≡ Some w) × (w ≤ most)
-    by true t e = let same : x ≡ w = cc in (e, omega (arith, leb-true x most t))
-    by false t e = cc
-
-says_word : (w : ℕ) (o : Option ℕ) → o ≡ Some w → says w o ≡ true
-says_word w None e = cc
-says_word w (Some x) e = eq-eqb x w (cc)
+reading_from most w o e = grind (arith, nat_tests)
 
 says_from : (w : ℕ) (o : Option ℕ) → says w o ≡ true → o ≡ Some w
-says_from w None e = cc
-says_from w (Some x) e = ap Some (eqb-true x w e)
-
-none_is : {X : Type 0} (o : Option X) → o ≡ None → not (is_some o) ≡ true
-none_is o e = ap (λ x. not (is_some x)) e
+says_from w o e = grind (arith, nat_tests)
 
 -- something is read, or nothing
 pub read_or : (o : Option ℕ) → (o ≡ None) ⊎ ((w : ℕ) × (o ≡ Some w))
@@ -46,16 +33,15 @@ module _ (n most : ℕ) (row : ℕ → Option ℕ) (l : ℕ) where
 
   -- who says nothing that counts is caught
   pub caught_silent : (r : ℕ) → r < n → reading most (row r) ≡ None → has (caught n most row l) r ≡ true
-  caught_silent r known e = in_caught r ∙ or_right (has l r) _ (and_from (ltb r n) _ (lt-ltb r n known) (none_is (reading most (row r)) e))
+  caught_silent r known e = grind (arith, nat_tests, in_caught r)
 
   -- and nobody else
   pub caught_from : (r : ℕ) → has (caught n most row l) r ≡ true → (has l r ≡ true) ⊎ ((r < n) × (reading most (row r) ≡ None))
-  caught_from r e =
-      ⊎_elim inl (λ t. let p = and_parts (ltb r n) _ t in inr (ltb-true r n p.0, unless (reading most (row r)) p.1)) (or_cases (has l r) _ (sym (in_caught r) ∙ e))
+  caught_from r e = grind (arith, nat_tests, in_caught r)
 
   pub saying_in : (w r : ℕ) → r < n → reading most (row r) ≡ Some w → has (caught n most row l) r ≡ false → has (saying n most row l w) r ≡ true
   saying_in w r known said free =
-      in_saying w r ∙ and_from (ltb r n) _ (lt-ltb r n known) (and_from (says w (reading most (row r))) _ (says_word w _ said) (not_from_false _ free))
+      grind (arith, nat_tests, in_saying w r)
 
   -- who counts as saying w said w, and is not caught
   pub record Said (w r : ℕ) : Type 0 where

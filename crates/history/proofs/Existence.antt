@@ -1,6 +1,6 @@
 -- Every schedule is kept by a history: the rounds are run one after another, and words go as the schedule says.
 use Rattle.std.proofs.Common.{◌≡◌, ℕ, zero, suc, ◌<◌, ◌≤◌, Bool, true, false, cond, not, eqb, ◌⊎◌, Some, None, Option, sym, refl, ap, ◌∙◌, subst, inl, inr, ⊎_elim, arith}
-use Rattle.std.proofs.lemmas.Bool.{cases_Bool, cases_lt, cond-true, cond-false, cond_both, and_right, or_from, eq-eqb, ne_eqb, le-ltb, true≢false}
+use Rattle.std.proofs.lemmas.Bool.{cases_Bool, cases_lt, cond-true, cond-false, and_right, or_from, eq-eqb, ne_eqb, le-ltb}
 use Rattle.sets.specs.Sets.{has}
 use Rattle.history.specs.Claims.{Runs, RunsExist}
 use Rattle.history.specs.Runs as going
@@ -38,7 +38,7 @@ module _ {S : Type 0} (a : Protocol S) (start : ℕ → ℕ) (c : Schedule) (lie
   stays p k e = cond-true (a.over (states k p)) _ _ e
 
   ran_on : (p k : ℕ) → a.over (states (suc k) p) ≡ false → a.over (states k p) ≡ false
-  ran_on p k e = ⊎_elim (λ t. absurd (true≢false (sym t ∙ sym (ap a.over (stays p k t)) ∙ e))) (λ f. f) (cases_Bool (a.over (states k p)))
+  ran_on p k e = grind (arith, stays p k)
 
   -- who has not stopped by k had not stopped before
   ran : (p k j : ℕ) → a.over (states k p) ≡ false → j ≤ k → a.over (states j p) ≡ false
@@ -52,37 +52,24 @@ module _ {S : Type 0} (a : Protocol S) (start : ℕ → ℕ) (c : Schedule) (lie
   shuts_few : (p k : ℕ) → shuts p k ≤ k
   unfolding going.shuts
   shuts_few p zero = omega arith
-  shuts_few p (suc k) = cond_both (a.over (states k p)) (shuts p k) (suc k) (λ x. x ≤ suc k) (λ e. omega (arith, shuts_few p k)) (λ e. omega arith)
+  shuts_few p (suc k) = grind (arith, shuts_few p k)
 
   -- a process shuts just the rounds in which it has not stopped
   shut_running : (p k j : ℕ) → j < shuts p k → a.over (states j p) ≡ false
   unfolding going.shuts
   shut_running p zero j h = absurd (omega arith)
-  shut_running p (suc k) j h = by (a.over (states k p)) refl h (shut_running p k j)
-    where
-      by : (b : Bool) → a.over (states k p) ≡ b → j < cond b (shuts p k) (suc k) → (j < shuts p k → a.over (states j p) ≡ false) → a.over (states j p) ≡ false
-      by true e h ih = ih h
-      by false e h ih = ran p k j e (omega arith)
+  shut_running p (suc k) j h = grind (arith, shut_running p k j, ran p k j)
 
   running_shut : (p k j : ℕ) → j < k → a.over (states j p) ≡ false → j < shuts p k
   unfolding going.shuts
   running_shut p zero j h e = absurd (omega arith)
-  running_shut p (suc k) j h e = by (a.over (states k p)) refl (running_shut p k j)
-    where
-      by : (b : Bool) → a.over (states k p) ≡ b → (j < k → a.over (states j p) ≡ false → j < shuts p k) → j < cond b (shuts p k) (suc k)
-      by true o ih =
-          ⊎_elim (λ (l : j < k). ih l e) (λ (l : k ≤ j). absurd (let z : k ≡ j = omega arith in true≢false (sym o ∙ subst (λ (x : ℕ). a.over (states x p) ≡ false) (sym z) e))) (cases_lt j k)
-      by false o ih = omega arith
+  running_shut p (suc k) j h e = grind (arith, running_shut p k j, cases_lt j k)
 
   -- where it does not shut all, it has stopped
   stopped : (p k : ℕ) → (shuts p k ≡ k) ⊎ (a.over (states (shuts p k) p) ≡ true)
   unfolding going.shuts
   stopped p zero = inl refl
-  stopped p (suc k) = by (a.over (states k p)) refl (stopped p k)
-    where
-      by : (b : Bool) → a.over (states k p) ≡ b → (shuts p k ≡ k) ⊎ (a.over (states (shuts p k) p) ≡ true) → (cond b (shuts p k) (suc k) ≡ suc k) ⊎ (a.over (states (cond b (shuts p k) (suc k)) p) ≡ true)
-      by true e ih = inr (⊎_elim (λ z. subst (λ (x : ℕ). a.over (states x p) ≡ true) (sym z) e) (λ t. t) ih)
-      by false e ih = inl refl
+  stopped p (suc k) = grind (arith, stopped p k)
 
   -- what is heard from a process that is not Byzantine
   module _ (p k r : ℕ) (s : S) (honest : has c.byzantine r ≡ false) where
@@ -143,14 +130,9 @@ module _ {S : Type 0} (a : Protocol S) (start : ℕ → ℕ) (c : Schedule) (lie
       own = λ p k known closed right owed.
           spoken p k p closed (shut_running p rounds k closed) (hears_correct p k p (states k p) (honest_by c p (suc k) right) right);
       heard = λ p k r m right. heard_or_over p k r m.closed (hears_correct p k r (states k r) (honest_by c r (suc k) right) right);
-      last_word = λ p k r m honest e. lost_or p k r m.closed honest e (lost k r p) refl;
+      last_word = λ p k r m honest e. grind (arith, hears_last p k r (states k r) honest e, heard_or_over p k r m.closed);
       later = λ p k r m honest some few. hears_later p k r (states k r) honest some few;
     }
-      where
-        lost_or : (p k r : ℕ) → k < shuts p rounds → has c.byzantine r ≡ false → c.last r ≡ suc k → (b : Bool) → lost k r p ≡ b → Heard n a (run rounds) c p k r ⊎ (hears k p r (states k r) ≡ None)
-        lost_or p k r closed honest e true l = inr (hears_last p k r (states k r) honest e ∙ cond-true (lost k r p) _ _ l)
-        lost_or p k r closed honest e false l =
-            ⊎_elim inl (λ t. inr t.1) (heard_or_over p k r closed (hears_last p k r (states k r) honest e ∙ cond-false (lost k r p) _ _ l))
 
     pub runs_so : Runs n a rounds start c lies lost (run rounds)
     unfolding going.run

@@ -4,7 +4,7 @@ use Rattle.std.proofs.lemmas.Bool.{cases_Bool, cases_eq, cond-true, cond-false, 
 use Rattle.sets.specs.Sets.{has, limit}
 use Rattle.history.specs.Protocols.{History, state}
 use Rattle.history.specs.Schedules as schedules
-use Rattle.history.specs.Schedules.{Schedule, correct, standing, failing}
+use Rattle.history.specs.Schedules.{Schedule, standing}
 use Rattle.history.proofs.Correct.{honest_by}
 use Rattle.agreement.specs.Rounds.{rounds_of}
 use Rattle.agreement.specs.Step.{State, protocol}
