@@ -1,5 +1,5 @@
 -- An accepted script gives a lawful rule.
-use Rattle.std.proofs.Common.{◌≡◌, ℕ, Bool, true, false, cond, not, List, [], ◌∷◌, is_some, Some, None, Ok, Err, Option, Result, refl, ap, subst, arith}
+use Rattle.std.proofs.Common.{◌≡◌, ℕ, Bool, true, false, cond, not, List, [], ◌∷◌, is_some, Some, None, Ok, Err, Option, Result, refl, ap, subst}
 use Rattle.sets.specs.declared.fault_pair.FaultPair.{FaultPair}
 use Rattle.refusal.specs.declared.rule.RuleRefusal.{RuleRefusal}
 use Rattle.refusal.specs.declared.script.Refusal.{Refusal}
@@ -20,9 +20,6 @@ use Rattle.report.specs.Verdicts.{ruleless, pairs_part, count_part, settled, jud
 -- n processes, and the laws of what they hold
 abbrev Good : ℕ → List FaultPair → Option Counts → Type 0
 Good n ps c = Sized n × Lawful n (holding n ps c)
-
-ok_is_not : (n : ℕ) (e : Refusal) (A : Type 0) → ◌≡◌ {A = Result ℕ Refusal} (Err e) (Ok n) → A
-ok_is_not n e A h = absurd (let z : ◌≡◌ {A = ℕ} 0 1 = cc in omega arith)
 
 listed_good : (n : ℕ) (ps : List FaultPair) → list_refusal n ps ≡ None → Sized n × Lawful n (λ a f. listed ps a f)
 listed_good n ps e =
@@ -46,14 +43,14 @@ parts_good n (x ∷ ps) (Some c) r p q =
 
 settled_ok : (s : Sheet) (q : Located ℕ) (o : Option RuleRefusal) (n : ℕ) → settled s q o ≡ Ok n → (o ≡ None) × (q.value ≡ n)
 settled_ok s q None n e = (refl, cc)
-settled_ok s q (Some r) n e = ok_is_not n _ _ e
+settled_ok s q (Some r) n e = absurd cc
 
 cond_ok : (b : Bool) (e : Refusal) (r : Result ℕ Refusal) (n : ℕ) → cond b (Err e) r ≡ Ok n → (b ≡ false) × (r ≡ Ok n)
-cond_ok true e r n h = ok_is_not n e _ h
+cond_ok true e r n h = absurd cc
 cond_ok false e r n h = (refl, h)
 
 judged_good : (s : Sheet) (o : Option (Located ℕ)) (n : ℕ) → judged_with s o ≡ Ok n → Good n (pairs_of s) (counts_of s)
-judged_good s None n e = ok_is_not n _ _ e
+judged_good s None n e = absurd cc
 judged_good s (Some q) n e =
     let a = cond_ok (ruleless (pairs_of s) (counts_of s)) _ _ n e in
     let b = settled_ok s q _ n a.1 in
@@ -64,7 +61,7 @@ read_good : (bs : List ℕ) (r : Result Sheet Refusal) (n : ℕ) → script_read
 read_good bs (Ok s) n e h =
     let g = judged_good s s.seats n h in
     record { size = g.0; laws = λ s' e'. let same : s ≡ s' = cc in subst (λ (x : Sheet). Lawful n (holding n (pairs_of x) (counts_of x))) same g.1 }
-read_good bs (Err x) n e h = ok_is_not n x _ h
+read_good bs (Err x) n e h = absurd cc
 
 pub protecting : (bs : List ℕ) (n : ℕ) → judgement bs ≡ Ok n → Protected bs n
 protecting bs n e = read_good bs (script_read bs) n refl e

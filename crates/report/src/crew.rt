@@ -12,7 +12,7 @@ use std::fmt;
 pub struct Crew {
     pub processes: u8,
     pub rounds: u16,
-    pub ghost whole: { rounds ≡ rounds_of processes },
+    pub ghost of_processes: { rounds ≡ rounds_of processes },
 }
 
 impl Crew {

@@ -3,7 +3,7 @@ ghost use Rattle.std.specs.Prelude.{◌≡◌, [], ◌∷◌, length, None, code
 ghost use Rattle.fields.specs.Fields.{split, blank};
 ghost use Rattle.script.specs.Lines.{fields_of, line_of, seats_entry, pair_entry, count_entry, entry_of};
 
-use fields::{BLANK, is_text, number, process_set, split_once};
+use fields::{BLANK, number, process_set, split_once};
 use sets::FaultPair;
 
 #[derive(Clone, Copy, Debug, PartialEq, Eq)]
@@ -54,8 +54,7 @@ fn two_fields(text: &[u8]) -> Option<(&[u8], &[u8])>
     ensures { MatchOption result (length (split blank text.now) ≢ 2) (λ p. split blank text.now ≡ p.0.now ∷ p.1.now ∷ []) }
 {
     let (first, rest) = split_once(text, BLANK)?;
-    let second = one_field(rest)?;
-    Some((first, second))
+    Some((first, one_field(rest)?))
 }
 
 impl<'a> Line<'a> {
