@@ -5,7 +5,8 @@ ghost use Rattle.agreement.specs.Rounds.{CeilLog, rounds_of};
 
 use sets::MAX_PROCESSES;
 
-// How many entries the table has: one for each number of processes, from 0 on.
+// How many entries the table has: one for each number of processes, from 0 on. A constant calls no function, hence
+// the cast.
 const ENTRIES: usize = MAX_PROCESSES as usize + 1;
 
 // The rounds for each number of processes.

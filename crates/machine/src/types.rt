@@ -2,7 +2,7 @@
 use refusal::ProcessRefusal;
 use sets::{MAX_PROCESSES, ProcessSet};
 
-// A slot for each process that there may be.
+// A slot for each process that there may be. A constant calls no function, hence the cast.
 pub const SLOTS: usize = MAX_PROCESSES as usize;
 
 // What a call may do now.

@@ -43,10 +43,7 @@ pub enum Entry {
 fn one_field(text: &[u8]) -> Option<&[u8]>
     ensures { MatchOption result (length (split blank text.now) ≢ 1) (λ a. split blank text.now ≡ a.now ∷ []) }
 {
-    match split_once(text, BLANK) {
-        None => Some(text),
-        Some(_) => None,
-    }
+    split_once(text, BLANK).is_none().then_some(text)
 }
 
 // The two fields of a text, where it has just two.
