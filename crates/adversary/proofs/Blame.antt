@@ -1,9 +1,10 @@
 -- Refusal 5 names the first three listed pairs that cover the crew.
-use Rattle.std.proofs.Common.{◌≡◌, ℕ, suc, ◌-◌, ◌<◌, ◌≤◌, Bool, true, false, not, ◌⊎◌, List, [], ◌∷◌, length, is_some, Some, None, Option, sym, refl, ap, ◌∙◌, subst, inl, inr, ⊎_elim, arith}
+use Rattle.std.proofs.Common.{◌≡◌, ℕ, suc, ◌-◌, ◌<◌, ◌≤◌, Bool, true, false, not, ◌||◌, ◌==◌, nat_lt, ◌⊎◌, List, [], ◌∷◌, length, is_some, Some, None, Option, sym, refl, ap, ◌∙◌, subst, inl, inr, ⊎_elim, arith}
+use Rattle.std.proofs.lemmas.Bool.Decides.{nat_tests}
 use Rattle.sets.specs.declared.fault_pair.FaultPair.{FaultPair}
 use Rattle.refusal.specs.declared.rule.RuleRefusal.{RuleRefusal}
 use Rattle.refusal.specs.declared.rule.RuleRefusal.TheVariants.{Cover, Processes, PairCount, AboveProcesses, InBothSets}
-use Rattle.adversary.specs.Refusals.{or_else, when, blamed, covers_at, third_from, second_from, least_cover, size_refusal, length_refusal, above, overlaps, pair_refusal, pairs_refusal, list_refusal, most_pairs, Before, Blamed, Coverless, Judged}
+use Rattle.adversary.specs.Refusals.{or_else, when, blamed, cover_refusal, covers_at, third_from, second_from, least_cover, size_refusal, length_refusal, above, overlaps, pair_refusal, pairs_refusal, list_refusal, most_pairs, Before, Blamed, Coverless, Judged}
 use Rattle.adversary.specs.ListLaws.{when_none, third_empty, second_empty, adopted, coverless}
 use Rattle.adversary.specs.Search.{first_is}
 
@@ -110,10 +111,14 @@ blame n ps i j k e =
 pub blameless : (n : ℕ) (ps : List FaultPair) → list_refusal n ps ≡ None → Coverless n ps
 blameless n ps e = coverless n ps (adopted n ps (ap (λ o. not (is_some o)) e)).apart
 
--- what a refusal says that is the list's
-pub judged : (n : ℕ) (ps : List FaultPair) (o : Option RuleRefusal) → o ≡ list_refusal n ps → Judged o n ps
-judged n ps o e = record {
-  answer = e;
-  blame = λ i j k b. blame n ps i j k (sym e ∙ b);
-  coverless = λ b. blameless n ps (sym e ∙ b);
-}
+-- where the number of processes and that of the pairs are allowed, the tests of the pairs decide
+pub judged : (n : ℕ) (ps : List FaultPair) (o : Option RuleRefusal) → size_refusal n ≡ None → 0 < length ps → length ps ≤ most_pairs → or_else (pairs_refusal n 1 ps) (cover_refusal n ps) ≡ o → Judged o n ps
+judged n ps o size some few tests =
+    let test : (length ps == 0 || nat_lt most_pairs (length ps)) ≡ false = grind (arith, nat_tests) in
+    let lengths : length_refusal (length ps) ≡ None = ap (λ b. when b PairCount) test in
+    let e : o ≡ list_refusal n ps = rw (size, lengths) (sym tests) in
+    record {
+      answer = e;
+      blame = λ i j k b. blame n ps i j k (sym e ∙ b);
+      coverless = λ b. blameless n ps (sym e ∙ b);
+    }

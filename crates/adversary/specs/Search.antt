@@ -16,6 +16,11 @@ module _ {X : Type 0} (f : ℕ → Option X) where
       let n : suc k ≡ k + 1 = omega arith in
       ap (first f k) c ∙ ap (λ s. or_else (f k) (first f s (m - (k + 1)))) n
 
+  pub first_none : (k m : ℕ) → m ≤ k → first f k (m - k) ≡ None
+  first_none k m h =
+      let c : m - k ≡ 0 = omega arith in
+      ap (first f k) c
+
   -- the answer at k, and going on where there is none
   pub first_found : (k m : ℕ) (x : X) → k < m → f k ≡ Some x → first f k (m - k) ≡ Some x
   first_found k m x h e = first_more k m h ∙ ap (λ o. or_else o (first f (k + 1) (m - (k + 1)))) e

@@ -3,7 +3,7 @@ ghost use Rattle.std.specs.Prelude.{◌≡◌, ℕ, ◌+◌, ◌-◌, ◌<◌, �
 ghost use Rattle.std.specs.Result.{result_err};
 ghost use Rattle.sets.specs.Pairs.{byz, fail, pair_of};
 ghost use Rattle.sets.specs.Sets.{limit};
-ghost use Rattle.adversary.specs.Refusals.{first, answered, size_refusal, pair_refusal, pairs_refusal, third_from, second_from, least_cover, cover_refusal, list_refusal, most_pairs, Judged};
+ghost use Rattle.adversary.specs.Refusals.{first, or_else, answered, size_refusal, pair_refusal, pairs_refusal, third_from, second_from, least_cover, cover_refusal, most_pairs, Judged};
 ghost use Rattle.adversary.specs.Rules.{listed};
 ghost use Rattle.adversary.specs.Lists.{Has, pairs_of};
 ghost use Rattle.adversary.specs.ListLaws;
@@ -34,8 +34,8 @@ fn place_of(index: usize) -> u16
     index as u16 + 1
 }
 
-// The first answer to the indices from `start` on and below `end`. A loop over indices, since docs/DECISIONS.md
-// fixes that form for the search of a cover.
+// The first answer to the indices from `start` on and below `end`. A loop over indices, and what the searches below
+// answer is a tuple of three, since docs/DECISIONS.md fixes these forms.
 fn first_from<T, F: Fn(usize) -> Option<T>>(start: usize, end: usize, answer: F) -> Option<T>
     requires asks { (k : ℕ) → k < end → F.pre answer k }
     ensures { (f : ℕ → Option _) → ((k : ℕ) (o : _) → k < end → F.post answer k o → o ≡ f k) → result ≡ first f start (end - start) }
@@ -110,6 +110,14 @@ impl Candidates<'_> {
         first_from(0, self.pairs.len(), |i| self.second_cover(i))
     }
 
+    // What is tested of the pairs themselves: each of them, and then that no three cover the crew.
+    fn check(&self) -> Result<(), RuleRefusal>
+        ensures { result ≡ answered tt (or_else (pairs_refusal self.now.processes 1 self.now.pairs.now) (cover_refusal self.now.processes self.now.pairs.now)) }
+    {
+        self.check_pairs()?;
+        self.check_cover()
+    }
+
     // That no three of them cover the crew.
     fn check_cover(&self) -> Result<(), RuleRefusal>
         ensures { result ≡ answered tt (cover_refusal self.now.processes self.now.pairs.now) }
@@ -121,38 +129,27 @@ impl Candidates<'_> {
     }
 }
 
-// Every test of a list in its order; the number of processes where all are passed.
-fn check_list(processes: u16, pairs: &[FaultPair]) -> Result<u8, RuleRefusal>
-    ensures { result ≡ answered processes (list_refusal processes pairs.now) }
-{
-    let processes = process_count(processes)?;
-    if pairs.is_empty() || pairs.len() > MAX_PAIRS {
-        return Err(RuleRefusal::PairCount);
-    }
-    let candidates = Candidates { processes, pairs };
-    candidates.check_pairs()?;
-    candidates.check_cover()?;
-    Ok(processes)
-}
-
-// The list of these pairs, where every test is passed. Its parameters are those of the one public call that hands
-// them on, so a struct of them would be no plainer.
+// The list of these pairs, where every test of a list is passed, one after the other.
 fn list_of(processes: u16, pairs: &[FaultPair]) -> Result<PairList, RuleRefusal>
     ensures answer { Judged (result_err result) processes pairs.now }
     ensures value { IfOk result (λ l. Has l processes pairs.now) }
 {
-    let processes = check_list(processes, pairs)?;
+    let processes = process_count(processes)?;
     let mut listed = ArrayVec::new();
     listed
         .try_extend_from_slice(pairs)
         .map_err(|_| RuleRefusal::PairCount)?;
+    if listed.is_empty() {
+        return Err(RuleRefusal::PairCount);
+    }
+    Candidates { processes, pairs }.check()?;
     Ok(PairList {
         processes,
         pairs: listed,
     })
 }
 
-// Whether a pair is contained in one of these.
+// Whether a pair is contained in one of these. A loop, since docs/DECISIONS.md fixes that form here.
 fn is_listed(pairs: &[FaultPair], pair: FaultPair) -> bool
     ensures { result ≡ listed pairs.now (byz pair) (fail pair) }
 {

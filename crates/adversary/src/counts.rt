@@ -34,13 +34,6 @@ impl Threshold {
             byzantine: byzantine as u8,
         })
     }
-
-    // All processes.
-    fn crew(&self) -> ProcessSet
-        ensures { result ≡ set_of (full self.now.processes) }
-    {
-        ProcessSet::first(self.processes)
-    }
 }
 
 impl AdversaryStructure for Threshold {
@@ -58,7 +51,7 @@ impl AdversaryStructure for Threshold {
 
     fn holds(&self, pair: FaultPair) -> bool {
         let faulty = pair.byzantine.union(pair.failing);
-        let inside = faulty.is_subset(self.crew());
+        let inside = faulty.is_subset(ProcessSet::first(self.processes));
         let few_byzantine = pair.byzantine.len() <= u32::from(self.byzantine);
         let few = faulty.len() <= u32::from(self.total);
         inside && few_byzantine && few

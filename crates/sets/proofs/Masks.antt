@@ -2,7 +2,8 @@
 use Rattle.std.proofs.Common.{◌≡◌, ℕ, zero, suc, ◌+◌, ◌-◌, ◌*◌, ◌/◌, ◌%◌, ◌^◌, ◌<◌, ◌≤◌, min, max, Bool, true, false, cond, ◌&&◌, ◌||◌, eqb, ltb, Decides, sym, refl, ap, ◌∙◌, subst, ap₂, ⊎_elim, pow-suc, arith}
 use lib.Bits.{bit_and, bit_or, and_step, or_step, and_shr, or_shr}
 use Rattle.std.proofs.lemmas.Nat.{shr-shr, mod-mul-add, pow_pos}
-use Rattle.std.proofs.lemmas.Bool.{cases_Bool, cases_eq, eq-eqb, ne_eqb, eqb-true, lt-ltb, le-ltb, cond-true, cond-false, and_parts}
+use Rattle.std.proofs.lemmas.Bool.{cases_Bool, cases_eq, eq-eqb, ne_eqb, eqb-true, lt-ltb, le-ltb, cond-true, cond-false, and_parts, true≢false}
+use Rattle.std.proofs.Math.Bool.{or-false, and-false}
 use Rattle.std.proofs.lemmas.Bool.Decides.{nat_tests}
 use Rattle.sets.specs.Meaning.{Subset}
 use Rattle.sets.specs.Sets.{has, full, mask, subset}
@@ -103,14 +104,6 @@ has_single zero (suc s) = has_suc (2 ^ 0) s ∙ has_none s ∙ grind (arith, nat
 has_single (suc i) zero = let p = pow-suc 2 i in let even : 2 ^ suc i % 2 ≡ 0 = omega arith in has_zero (2 ^ suc i) ∙ ap (λ x. eqb x 1) even ∙ grind (arith, nat_tests)
 has_single (suc i) (suc s) = let p = pow-suc 2 i in let half : 2 ^ suc i / 2 ≡ 2 ^ i = omega arith in has_suc (2 ^ suc i) s ∙ ap (λ x. has x s) half ∙ has_single i s ∙ grind (arith, nat_tests)
 
-or_none : (b : Bool) → (b || false) ≡ b
-or_none true = refl
-or_none false = refl
-
-and_none : (b : Bool) → (b && false) ≡ false
-and_none true = refl
-and_none false = refl
-
 -- one process more is tested: it joins where it passes
 pub mask_passed : (i : ℕ) (test : ℕ → Bool) → test i ≡ true → mask (i + 1) test ≡ bit_or (mask i test) (2 ^ i)
 mask_passed i test e =
@@ -120,7 +113,7 @@ mask_passed i test e =
     by s =
         ⊎_elim
         (λ (same : i ≡ s). let t : test s ≡ true = subst (λ (x : ℕ). test x ≡ true) same e in let a : ltb s (i + 1) ≡ true = lt-ltb s (i + 1) (omega arith) in let b : eqb i s ≡ true = eq-eqb i s same in let l : ltb s i ≡ false = le-ltb s i (omega arith) in rw (a, t, b, l) refl)
-        (λ (ne : i ≡ s → ⊥). let b : eqb i s ≡ false = ne_eqb i s ne in let same : ltb s (i + 1) ≡ ltb s i = grind (arith, nat_tests) in rw (b, same) (sym (or_none (ltb s i && test s))))
+        (λ (ne : i ≡ s → ⊥). let b : eqb i s ≡ false = ne_eqb i s ne in let same : ltb s (i + 1) ≡ ltb s i = grind (arith, nat_tests) in rw (b, same) (sym (or-false (ltb s i && test s))))
         (cases_eq i s)
 
 pub mask_failed : (i : ℕ) (test : ℕ → Bool) → test i ≡ false → mask (i + 1) test ≡ mask i test
@@ -130,7 +123,7 @@ mask_failed i test e =
     by : (s : ℕ) → (ltb s (i + 1) && test s) ≡ (ltb s i && test s)
     by s =
         ⊎_elim
-        (λ (same : i ≡ s). let t : test s ≡ false = subst (λ (x : ℕ). test x ≡ false) same e in rw t (and_none (ltb s (i + 1)) ∙ sym (and_none (ltb s i))))
+        (λ (same : i ≡ s). let t : test s ≡ false = subst (λ (x : ℕ). test x ≡ false) same e in rw t (and-false (ltb s (i + 1)) ∙ sym (and-false (ltb s i))))
         (λ (ne : i ≡ s → ⊥). let same : ltb s (i + 1) ≡ ltb s i = grind (arith, nat_tests) in ap (λ b. b && test s) same)
         (cases_eq i s)
 
@@ -153,6 +146,14 @@ members_subset a b h = eq-eqb (bit_and a b) a (same_sets (bit_and a b) a (λ s. 
 
 pub subset_decides : (a b : ℕ) → Decides (subset a b) (Subset a b)
 subset_decides a b = (subset_members a b, members_subset a b)
+
+-- a single process is a subset where it is in the set
+pub single_subset : (i m : ℕ) → subset (2 ^ i) m ≡ has m i
+single_subset i m =
+    ⊎_elim
+    (λ e. members_subset (2 ^ i) m (λ s h. subst (λ (x : ℕ). has m x ≡ true) (eqb-true i s (sym (has_single i s) ∙ h)) e) ∙ sym e)
+    (λ e. ⊎_elim (λ t. absurd (true≢false (sym (subset_members (2 ^ i) m t i (has_single i i ∙ eq-eqb i i refl)) ∙ e))) (λ f. f ∙ sym e) (cases_Bool (subset (2 ^ i) m)))
+    (cases_Bool (has m i))
 
 -- a mask depends on the test of the first n positions alone
 pub mask_ext : (n : ℕ) (P Q : ℕ → Bool) → ((s : ℕ) → s < n → P s ≡ Q s) → mask n P ≡ mask n Q

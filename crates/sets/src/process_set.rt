@@ -47,10 +47,11 @@ impl ProcessSet {
     }
 
     // Whether process `number` is in the set.
+    #[tactic(auto, using(crate::proofs::Masks::single_subset))]
     pub fn contains(self, number: u8) -> bool
         ensures { result ≡ (numbered number && has self.bits (number - 1)) }
     {
-        1 <= number && number <= MAX_PROCESSES && has_bit(self.bits, number - 1)
+        ProcessSet::of(number).is_some_and(|one| one.is_subset(self))
     }
 
     // The set with process `number` added; the same set where there is no such process.
@@ -119,14 +120,6 @@ fn low_bits(count: u8) -> Mask
 {
     // Kept as a cast, which is proved to lose nothing: no From narrows a number, and a try_from could not fail here.
     ((1u32 << count) - 1) as Mask
-}
-
-// Whether the bit at a position is one.
-fn has_bit(bits: Mask, position: u8) -> bool
-    requires { position < limit }
-    ensures { result ≡ has bits position }
-{
-    (bits >> position) % 2 == 1
 }
 
 // That masks are sets: what each operation on masks means, process by process, at any width.
