@@ -6,7 +6,7 @@ ghost use Rattle.process.specs.Rounds.{round_kind};
 // How many rounds a phase has: one of each kind.
 pub(crate) const PHASE_ROUNDS: u16 = 3;
 
-// The word of a process without a value: the greatest that counts in any round.
+// The word of a process without a value: the greatest that counts in any round. A byte, as all words are.
 pub(crate) const NO_VALUE: u8 = 2;
 
 // In the first kind all values are unified, in the second they are exchanged, in the third the king speaks.

@@ -1,8 +1,10 @@
 // The code of a process: so far the step of one round.
 #![tactic(auto)]
 
-mod hearing;
 mod kind;
 mod round;
+mod selection;
+mod state;
 
-pub use round::{Core, step};
+pub use round::step;
+pub use state::Core;
