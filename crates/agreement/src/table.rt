@@ -9,7 +9,7 @@ use sets::MAX_PROCESSES;
 // the cast.
 const ENTRIES: usize = MAX_PROCESSES as usize + 1;
 
-// The rounds for each number of processes.
+// The rounds for each number of processes: a table, a form that docs/DECISIONS.md fixes.
 const ROUNDS: [u16; ENTRIES] = [
     0, 0, 6, 18, 24, 45, 54, 63, 72, 108, 120, 132, 144, 156, 168, 180, 192,
 ];

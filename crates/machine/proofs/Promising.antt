@@ -13,7 +13,7 @@ use Rattle.agreement.proofs.Agreeing.{agreement, validity}
 use Rattle.agreement.proofs.Rows.{read_or}
 use Rattle.machine.specs.Deeds.{Deed, started, spoke, deed_of_reply, deed_of, is_shut, shuts, Did}
 use Rattle.refusal.specs.declared.process.ProcessRefusal.{ProcessRefusal}
-use Rattle.machine.specs.Machine.{reply_by, is_decided, answered_by, replied, after}
+use Rattle.machine.specs.Machine.{resting, reply_by, is_decided, answered_by, replied, after}
 use Rattle.machine.specs.Promise.{ran, Faithful, Shows, Honest, Message, Course, Started, PromiseKept}
 use Rattle.machine.specs.declared.types.Answer.TheVariants as answer
 use Rattle.machine.specs.declared.types.Call.{Call}
@@ -106,20 +106,19 @@ module _ (n : ℕ) (held : ℕ → ℕ → Bool) (c : Schedule) (log : List Entr
   known_of : (p : ℕ) → p < n → Honest n held c log p → Knows n held course.few d p log
   known_of p l honest = knows n held course.few d p log (course.faithful p l honest) (λ k m b x. course.kept.numbered p k m b l honest x)
 
-  -- a process with a deed is awake, and so is one that has shut a round
-  awake_by : (p k : ℕ) (x : Deed) → p < n → Honest n held c log p → Did p k x log → Awake p
-  awake_by p k x l honest did = by (known_of p l honest)
+  -- who cannot be asleep is awake: who has a deed, has shut a round, or is decided
+  woken : (p : ℕ) → p < n → Honest n held c log p → (ran n held p log ≡ resting → (J p).rounds ≡ 0 → ((k : ℕ) (x : Deed) → Did p k x log → ⊥) → ⊥) → Awake p
+  woken p l honest never = by (known_of p l honest)
     where
       by : Knows n held course.few d p log → Awake p
-      by (asleep a b e none) = absurd (none k x did)
+      by (asleep a b e none) = absurd (never a b none)
       by (awake t f) = (t, f)
 
+  awake_by : (p k : ℕ) (x : Deed) → p < n → Honest n held c log p → Did p k x log → Awake p
+  awake_by p k x l honest did = woken p l honest (λ a b none. none k x did)
+
   awake_shut : (p k : ℕ) → p < n → Honest n held c log p → k < shuts p log → Awake p
-  awake_shut p k l honest closed = by (known_of p l honest)
-    where
-      by : Knows n held course.few d p log → Awake p
-      by (asleep a b e none) = absurd (omega (arith, journal_rounds d p log, b, closed))
-      by (awake t f) = (t, f)
+  awake_shut p k l honest closed = woken p l honest (λ a b none. omega (arith, journal_rounds d p log, b, closed))
 
   -- what r said in the round after k, and p has of it, is heard
   heard_by : (p k r w : ℕ) → r < n → Honest n held c log r → Did r k (spoke (Some w)) log → (J p).row k r ≡ Some w → schedules.Heard n (protocol n held) past c p k r
@@ -179,11 +178,7 @@ module _ (n : ℕ) (held : ℕ → ℕ → Bool) (c : Schedule) (log : List Entr
   shown p v e = grind arith
 
   awake_decided : (p : ℕ) → p < n → Honest n held c log p → is_decided (ran n held p log).stage ≡ true → Awake p
-  awake_decided p l honest decided = by (known_of p l honest)
-    where
-      by : Knows n held course.few d p log → Awake p
-      by (asleep a b e none) = absurd (true≢false (sym decided ∙ ap (λ (s : ProcessState). is_decided s.stage) a))
-      by (awake t f) = (t, f)
+  awake_decided p l honest decided = woken p l honest (λ a b none. true≢false (sym decided ∙ ap (λ (s : ProcessState). is_decided s.stage) a))
 
   all_shut : (p : ℕ) → Awake p → is_decided (ran n held p log).stage ≡ true → shuts p log ≡ rounds_of n
   all_shut p a decided = sym (journal_rounds d p log) ∙ a.0.done decided

@@ -1,12 +1,12 @@
 -- What a process did, read off the calls that were carried out.
 -- A log is a list of calls with what came of each, the latest first.
-use Rattle.std.specs.Prelude.{◌≡◌, ℕ, ◌+◌, cond, ◌⊎◌, List, [], ◌∷◌, Some, None, Option, Ok, Err, Result, ◌==◌}
-use Rattle.refusal.specs.declared.process.ProcessRefusal.{ProcessRefusal}
+use Rattle.std.specs.Prelude.{◌≡◌, ℕ, ◌+◌, cond, ◌⊎◌, List, [], ◌∷◌, Some, None, Option, Ok, Err, ◌==◌}
 use Rattle.machine.specs.declared.types.Answer.{Answer}
 use Rattle.machine.specs.declared.types.Answer.TheVariants as answer
 use Rattle.machine.specs.declared.types.Call.{Call}
 use Rattle.machine.specs.declared.types.Call.TheVariants as call
 use Rattle.machine.specs.declared.types.Entry.{Entry}
+use Rattle.machine.specs.Replies.{Reply}
 
 -- a deed is a call that was carried out and changes something
 pub data Deed : Type 0 where
@@ -32,7 +32,7 @@ deed_of_answer call.Shut a = Some shut
 deed_of_answer call.Verdict a = None
 deed_of_answer call.Standing a = None
 
-abbrev pub deed_of_reply : Call → Option (Result Answer ProcessRefusal) → Option Deed
+abbrev pub deed_of_reply : Call → Reply → Option Deed
 deed_of_reply c None = None
 deed_of_reply c (Some (Err e)) = None
 deed_of_reply c (Some (Ok a)) = deed_of_answer c a

@@ -1,3 +1,4 @@
+pub mod Replies
 pub mod Machine
 pub mod Deeds
 pub mod Promise

@@ -1,6 +1,6 @@
 -- The six calls on one process: when each is refused, what it answers, and the process after it.
 -- The process runs under a rule for n processes that holds the pairs `held`.
-use Rattle.std.specs.Prelude.{ℕ, suc, ◌+◌, ◌-◌, Bool, true, false, cond, not, ◌&&◌, ◌||◌, replicate, is_some, Some, None, Option, Ok, Err, Result, ◌==◌, nat_le, nat_lt, slice_index_or, slice_set}
+use Rattle.std.specs.Prelude.{ℕ, suc, ◌+◌, ◌-◌, Bool, true, false, cond, not, ◌&&◌, ◌||◌, replicate, is_some, Some, None, Option, Ok, Err, ◌==◌, nat_le, nat_lt, slice_index_or, slice_set}
 use Rattle.sets.specs.Sets.{limit, set_of}
 use Rattle.adversary.specs.Refusals.{or_else, when}
 use Rattle.agreement.specs.Rounds.{rounds_of}
@@ -15,6 +15,7 @@ use Rattle.machine.specs.declared.types.Call.TheVariants as call
 use Rattle.machine.specs.declared.types.ProcessState.{ProcessState}
 use Rattle.machine.specs.declared.types.Stage.{Stage}
 use Rattle.machine.specs.declared.types.Stage.TheVariants.{Resting, Due, Listening, Decided}
+use Rattle.machine.specs.Replies.{Reply}
 
 -- a process that has not started
 abbrev pub resting : ProcessState
@@ -160,7 +161,7 @@ carried n held s call.Verdict = s
 carried n held s call.Standing = s
 
 -- what comes of a call, and the process after it: a refusal changes nothing
-abbrev pub reply_by : Option ProcessRefusal → Answer → Option (Result Answer ProcessRefusal)
+abbrev pub reply_by : Option ProcessRefusal → Answer → Reply
 reply_by None a = Some (Ok a)
 reply_by (Some e) a = Some (Err e)
 
@@ -168,7 +169,7 @@ abbrev pub after_by : Option ProcessRefusal → ProcessState → ProcessState �
 after_by None s s' = s'
 after_by (Some e) s s' = s
 
-abbrev pub replied : ℕ → ProcessState → Call → Option (Result Answer ProcessRefusal)
+abbrev pub replied : ℕ → ProcessState → Call → Reply
 replied n s a = reply_by (refused n s a) (answered_by n s a)
 
 abbrev pub after : ℕ → (ℕ → ℕ → Bool) → ProcessState → Call → ProcessState

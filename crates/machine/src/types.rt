@@ -19,6 +19,8 @@ pub enum Stage {
 }
 
 // One process, without its rule. The slot of each process holds the word heard from it in this round.
+// Plain fields and a table of slots are a form that docs/DECISIONS.md fixes: number and round are 0 before the start,
+// and values are the words that go by radio, 2 for none.
 #[derive(Clone, Copy, Debug, PartialEq, Eq)]
 pub struct ProcessState {
     pub stage: Stage,
