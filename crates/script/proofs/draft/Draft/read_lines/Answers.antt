@@ -1,15 +1,12 @@
-use Rattle.std.proofs.Common.{◌≡◌, suc, ◌-◌, [], ◌∷◌, eqb, rules, tests, arith, sym, ap, ◌∙◌, subst, Some, Ok, Err}
+use Rattle.std.proofs.Common.{◌≡◌, ◌-◌, [], ◌∷◌, eqb, rules, tests, arith, sym, ap, ◌∙◌}
 use Rattle.std.specs.Iterator.Adapters.{zip_first, zip_second}
 use Rattle.std.specs.Slice.Iter.{split_inclusive_rest}
 use Rattle.std.proofs.lemmas.Bool.Decides.{Decides-eqb}
 use Rattle.std.proofs.lemmas.Fn.{always_returns_same}
 use Rattle.std.proofs.lemmas.Slice.Eq.{strip_suffix_is}
 use Rattle.fields.specs.Fields.{split, line_feed}
-use Rattle.refusal.specs.Numbers.{at_line}
-use Rattle.refusal.specs.declared.script.Cause.TheVariants.{Malformed}
 use Rattle.script.specs.declared.fault.Fault.TheVariants.{Refused}
-use Rattle.script.specs.Refusals.{and_then}
-use Rattle.script.specs.Sheets.{sheet_of, line_read, lines_read}
+use Rattle.script.specs.Sheets.{sheet_of, lines_read}
 use Rattle.script.proofs.Reading.{handed, refuses_map, ReadsOn, reads_on}
 use Rattle.script.proofs.draft.Draft.read_lines.Goals.{After-ok_or}
 use Rattle.script.proofs.draft.Draft.read_lines.Goals as goal
