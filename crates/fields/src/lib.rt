@@ -18,6 +18,7 @@ const COMMA: u8 = b',';
 const MAX_DIGITS: usize = 3;
 
 // Whether a field is this text.
+// It stands beside `==` since it is public and promises that equal fields are equal lists of bytes.
 pub fn is_text(field: &[u8], text: &str) -> bool
     ensures value { result ≡ bytes_eq field.now text.now }
     ensures same { result ≡ true → field.now ≡ text.now }

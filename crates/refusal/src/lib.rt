@@ -1,4 +1,4 @@
-// Why something is refused: the cases of every layer, and how each is printed.
+// Why something is refused: the cases of every layer with their numbers and places. Layers, places and whole refusals print themselves.
 // A number and a place are methods of each kind and no trait: nothing is written for refusals of any kind.
 #![tactic(auto)]
 

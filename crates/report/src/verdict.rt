@@ -42,7 +42,7 @@ impl<'a> Seated<'a> {
     }
 
     // A rule's answer, with the line added to a refusal.
-    // No `map_err`: of a closure that captures `self`, which holds a reference, the proof learns nothing.
+    // Tried with `map_err`: of a closure that captures `self`, which holds a reference, the proof learns nothing.
     fn lined<T>(self, answer: Result<T, RuleRefusal>) -> Result<T, Refusal>
         ensures { MatchResult answer (λ x. result ≡ Ok x) (λ e. result ≡ Err (at_line (Rule e) (rule_line (sheet_of self.entry.draft.now) self.entry.seats.line e))) }
     {
@@ -93,7 +93,7 @@ pub(crate) fn judge_draft(heap: Global, draft: &Draft) -> Result<Crew, Fault>
     let seats = draft.seats.ok_or(MISSING)?;
     let seated = Seated { draft, seats };
     match draft.count {
-        None if draft.pairs.is_empty() => Err(Fault::Refused(MISSING)),
+        None if draft.pairs.is_empty() => Err(MISSING.into()),
         None => Ok(Crew::of(&seated.list(heap)?)),
         Some(counts) if draft.pairs.is_empty() => Ok(Crew::of(&seated.threshold(counts.value)?)),
         Some(counts) => {

@@ -48,42 +48,28 @@ module _ (bs line rest : List ℕ) (i : ℕ) (whole : bs ≡ line ++ rest) (long
       h (take i line) (sym (take-append-drop i line) ∙ ap (λ l. take i line ++ l) last) in
       slice_split_none _ bs (λ k d g. first.0 k d (omega arith) (omega (arith, past)))
 
-  -- `strip_suffix` tells which
-  module _ (stripped : Option (Bor (List ℕ))) (cases : MatchOption stripped ((front : List ℕ) → line ≢ front ++ line_feed ∷ []) (λ x. line ≡ x.now ++ line_feed ∷ [])) (e : Refusal) where
-    pub piece_cut : (text : Bor (List ℕ)) → ok_or stripped e ≡ Ok text → Cut line_feed bs text.now rest
-    piece_cut text h = by stripped cases h
-      where
-        by : (o : Option (Bor (List ℕ))) → MatchOption o ((front : List ℕ) → line ≢ front ++ line_feed ∷ []) (λ x. line ≡ x.now ++ line_feed ∷ []) → ok_or o e ≡ Ok text → Cut line_feed bs text.now rest
-        by None c k = cc
-        by (Some x) c k = let same : x ≡ text = cc in subst (λ (y : Bor (List ℕ)). Cut line_feed bs y.now rest) same (ended x.now c)
-
-    pub piece_whole : (f : Refusal) → ok_or stripped e ≡ Err f → (split line_feed bs ≡ bs ∷ []) × (e ≡ f)
-    piece_whole f h = by stripped cases h
-      where
-        by : (o : Option (Bor (List ℕ))) → MatchOption o ((front : List ℕ) → line ≢ front ++ line_feed ∷ []) (λ x. line ≡ x.now ++ line_feed ∷ []) → ok_or o e ≡ Err f → (split line_feed bs ≡ bs ∷ []) × (e ≡ f)
-        by None c k = (endless c, cc)
-        by (Some x) c k = cc
-
 -- a line that is not the last piece
 lines_more : (s : Sheet) (k : ℕ) (t : List ℕ) (ps : List (List ℕ)) → 0 < length ps → lines_read s k (t ∷ ps) ≡ and_then (line_read s (suc k) t) (λ s'. lines_read s' (suc k) ps)
 lines_more s k t [] h = absurd (omega arith)
 lines_more s k t (p ∷ ps) h = refl
 
+-- what `strip_suffix` leaves of the first piece is read as line n, and then the rest; a piece without an end is refused
+abbrev pub ReadsOn : Sheet → ℕ → ℕ → List ℕ → List ℕ → Result (Bor (List ℕ)) Refusal → Type 0
+ReadsOn s k n bs rest r =
+    MatchResult r (λ x. (length rest < length bs) × (lines_read s k (split line_feed bs) ≡ and_then (line_read s n x.now) (λ s'. lines_read s' n (split line_feed rest)))) (λ e. lines_read s k (split line_feed bs) ≡ Err e)
+
 module _ (s : Sheet) (k n : ℕ) (next : suc k ≡ n) (bs : List ℕ) where
   -- what is there has no end
-  pub lines_end : 0 < length bs → split line_feed bs ≡ bs ∷ [] → lines_read s k (split line_feed bs) ≡ Err (at_line Malformed (Some n))
+  lines_end : 0 < length bs → split line_feed bs ≡ bs ∷ [] → lines_read s k (split line_feed bs) ≡ Err (at_line Malformed (Some n))
   lines_end h e = ap (lines_read s k) e ∙ cond-true _ _ _ (lt-ltb 0 (length bs) h) ∙ ap (λ m. Err (at_line Malformed (Some m))) next
 
   -- the line before the first line feed is read first
-  module _ (front rest : List ℕ) (c : Cut line_feed bs front rest) where
-    lines_first : (r : Result Sheet Refusal) → line_read s n front ≡ r → lines_read s k (split line_feed bs) ≡ and_then r (λ s'. lines_read s' n (split line_feed rest))
-    lines_first r h =
-        ap (lines_read s k) c.pieces ∙ lines_more s k front (split line_feed rest) (omega (arith, length-slice_split (λ b. eqb b line_feed) rest))
-        ∙ ap (λ m. and_then (line_read s m front) (λ s'. lines_read s' m (split line_feed rest))) next
-        ∙ ap (λ (x : Result Sheet Refusal). and_then x (λ s'. lines_read s' n (split line_feed rest))) h
+  lines_first : (front rest : List ℕ) → Cut line_feed bs front rest → lines_read s k (split line_feed bs) ≡ and_then (line_read s n front) (λ s'. lines_read s' n (split line_feed rest))
+  lines_first front rest c =
+      ap (lines_read s k) c.pieces ∙ lines_more s k front (split line_feed rest) (omega (arith, length-slice_split (λ b. eqb b line_feed) rest))
+      ∙ ap (λ m. and_then (line_read s m front) (λ s'. lines_read s' m (split line_feed rest))) next
 
-    pub lines_stop : (e : Refusal) → line_read s n front ≡ Err e → lines_read s k (split line_feed bs) ≡ Err e
-    lines_stop e h = lines_first (Err e) h
-
-    pub lines_go : (s' : Sheet) → line_read s n front ≡ Ok s' → lines_read s k (split line_feed bs) ≡ lines_read s' n (split line_feed rest)
-    lines_go s' h = lines_first (Ok s') h
+  module _ (line rest : List ℕ) (i : ℕ) (whole : bs ≡ line ++ rest) (some : 0 < length bs) (long : length line ≡ min (i + 1) (length bs)) (first : IsFirstMatchOrLen (λ b. eqb b line_feed) bs i) where
+    pub reads_on : (o : Option (Bor (List ℕ))) (e : Refusal) → MatchOption o ((front : List ℕ) → line ≢ front ++ line_feed ∷ []) (λ x. line ≡ x.now ++ line_feed ∷ []) → e ≡ at_line Malformed (Some n) → ReadsOn s k n bs rest (ok_or o e)
+    reads_on None e c told = lines_end some (endless bs line rest i whole long first c) ∙ ap Err (sym told)
+    reads_on (Some x) e c told = let cut = ended bs line rest i whole long first x.now c in (cut.shorter, lines_first x.now rest cut)

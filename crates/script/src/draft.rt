@@ -31,10 +31,11 @@ impl Draft {
         ensures { Answers result sheet_of (script_read script.now) }
     {
         if script.len() > MAX_BYTES {
-            return Err(Fault::Refused(Refusal {
+            return Err(Refusal {
                 cause: Cause::TooLong,
                 line: None,
-            }));
+            }
+            .into());
         }
         let mut draft = Draft::new(heap);
         draft.read_lines(script)?;
@@ -68,10 +69,11 @@ impl Draft {
         ensures { Answers result (λ _. sheet_of self.new) (entered (sheet_of self.old) line entry) }
     {
         if self.misplaces(entry) {
-            return Err(Fault::Refused(Refusal {
+            return Err(Refusal {
                 cause: Cause::Misplaced,
                 line: Some(line),
-            }));
+            }
+            .into());
         }
         match entry {
             Entry::Seats(value) => self.seats = Some(Located { value, line }),

@@ -6,6 +6,7 @@ ghost use Rattle.script.specs.Lines.{fields_of, line_of, seats_entry, pair_entry
 use fields::{BLANK, number, process_set, split_once};
 use sets::FaultPair;
 
+// Cases that hold borrowed fields and the line's number are a form that docs/DECISIONS.md fixes.
 #[derive(Clone, Copy, Debug, PartialEq, Eq)]
 pub enum Line<'a> {
     Seats {

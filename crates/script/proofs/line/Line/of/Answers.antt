@@ -1,20 +1,17 @@
-use Rattle.std.proofs.Common.{◌≡◌, ◌∷◌, codes, sym, refl, ap, ap₂, ◌∙◌, arith, tests}
+use Rattle.std.proofs.Common.{codes, refl, ap, ◌∙◌, arith, rules, tests}
 use borrow.Author.Tests.{ltb-true, ltb-false}
-use Rattle.std.proofs.lemmas.Slice.Eq.{text_from_reads}
 use Rattle.fields.specs.Fields.{split, blank}
 use Rattle.script.specs.Lines.{entry_of}
-use Rattle.script.proofs.Words.{other_word}
+use Rattle.script.proofs.Words.{other_word, with_word}
 use Rattle.script.proofs.line.Line.of.Goals as goal
 
 pub returns-in_ok-count-in-seats : goal.returns-in_ok-count-in-seats
 returns-in_ok-count-in-seats c =
-    let word : c.in_ok-word.word.now ≡ codes "seats" = text_from_reads _ _ (omega (arith, ltb-true, ltb-false)) (omega arith, (omega arith, (omega arith, (omega arith, (omega arith, tt))))) in
-    (sym (c.in_ok-word.ensures.pieces ∙ ap₂ (λ w fs. w ∷ fs) word c.in_ok-count-in-seats.ensures), refl)
+    (with_word c.in_ok-word.word.now (codes "seats") _ _ _ c.in_ok-word.ensures.pieces c.in_ok-count-in-seats.ensures (omega (arith, ltb-true, ltb-false)) (search rules), refl)
 
 pub returns-in_ok-total-in-count : goal.returns-in_ok-total-in-count
 returns-in_ok-total-in-count c =
-    let word : c.in_ok-word.word.now ≡ codes "count" = text_from_reads _ _ (omega (arith, ltb-true, ltb-false)) (omega arith, (omega arith, (omega arith, (omega arith, (omega arith, tt))))) in
-    (sym (c.in_ok-word.ensures.pieces ∙ ap₂ (λ w fs. w ∷ fs) word c.in_ok-total-in-count.ensures), refl)
+    (with_word c.in_ok-word.word.now (codes "count") _ _ _ c.in_ok-word.ensures.pieces c.in_ok-total-in-count.ensures (omega (arith, ltb-true, ltb-false)) (search rules), refl)
 
 pub returns-in_default : goal.returns-in_default
 returns-in_default c =
