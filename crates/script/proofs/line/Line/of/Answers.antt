@@ -5,6 +5,7 @@ use Rattle.script.specs.Lines.{entry_of}
 use Rattle.script.proofs.Words.{other_word, with_word}
 use Rattle.script.proofs.line.Line.of.Goals as goal
 
+-- the check finds this answer and the next alone, but only near the limit of its search
 pub returns-in_ok-count-in-seats : goal.returns-in_ok-count-in-seats
 returns-in_ok-count-in-seats c =
     (with_word c.in_ok-word.word.now (codes "seats") _ _ _ c.in_ok-word.ensures.pieces c.in_ok-count-in-seats.ensures (omega (arith, ltb-true, ltb-false)) (search rules), refl)
