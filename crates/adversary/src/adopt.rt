@@ -19,10 +19,10 @@ use sets::{FaultPair, MAX_PROCESSES, ProcessSet};
 pub(crate) fn process_count(processes: u16) -> Result<u8, RuleRefusal>
     ensures { result ≡ answered processes (size_refusal processes) }
 {
-    match u8::try_from(processes) {
-        Ok(count) if 1 <= count && count <= MAX_PROCESSES => Ok(count),
-        _ => Err(RuleRefusal::Processes),
-    }
+    u8::try_from(processes)
+        .ok()
+        .filter(|count| 1 <= *count && *count <= MAX_PROCESSES)
+        .ok_or(RuleRefusal::Processes)
 }
 
 // A place in a list, counted from 1.
@@ -48,7 +48,8 @@ fn first_from<T, F: Fn(usize) -> Option<T>>(start: usize, end: usize, answer: F)
     None
 }
 
-// Pairs that are to be listed, no more than a list has, for a crew of so many processes.
+// Pairs that are to be listed, no more than a list has, for a crew of so many processes. Nothing compares them: they
+// are made for one call and hold a reference.
 #[derive(Clone, Copy, Debug)]
 struct Candidates<'a> {
     processes: u8,
@@ -118,7 +119,7 @@ impl Candidates<'_> {
         self.check_cover()
     }
 
-    // That no three of them cover the crew.
+    // That no three of them cover the crew. A match, since map_or(Ok(()), ..) is no plainer.
     fn check_cover(&self) -> Result<(), RuleRefusal>
         ensures { result ≡ answered tt (cover_refusal self.now.processes self.now.pairs.now) }
     {

@@ -44,6 +44,7 @@ pub enum Call {
 }
 
 // How a process stands: its preferred value, the rounds shut, whom it has detected, and how many words were missing.
+// The value is a word's byte, as in ProcessState.
 #[derive(Clone, Copy, Debug, PartialEq, Eq)]
 pub struct Report {
     pub preferred: u8,

@@ -19,7 +19,7 @@ fn read_slot(slots: &[Option<u8>], kind: Kind, position: u8) -> Option<u8>
 }
 
 // One round of one process: its rule, the words in its slots, how many rounds were shut before, what it knew then,
-// and the processes that said nothing that counts.
+// and the processes that said nothing that counts. Nothing compares it: it is made for one call and holds references.
 #[derive(Drop)]
 struct Round<'a, S: AdversaryStructure> {
     rule: &'a S,

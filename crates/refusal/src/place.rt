@@ -13,7 +13,7 @@ pub enum Layer {
 }
 
 impl Layer {
-    // The printed name.
+    // The printed name. It stands beside Display since it is public and promises the name as a text.
     pub fn name(self) -> &'static str
         ensures { result.now ≡ name_of self }
     {

@@ -16,7 +16,8 @@ use script::{Counts, Draft, Fault, Located};
 use sets::FaultPair;
 use std::alloc::{AllocError, Global};
 
-// A draft, and the number of processes that it gives.
+// A draft, and the number of processes that it gives. Nothing compares them: it is made for one call and holds a
+// reference.
 #[derive(Clone, Copy)]
 struct Seated<'a> {
     draft: &'a Draft,
@@ -42,17 +43,15 @@ impl<'a> Seated<'a> {
     }
 
     // A rule's answer, with the line added to a refusal.
-    // Tried with `map_err`: of a closure that captures `self`, which holds a reference, the proof learns nothing.
+    // Taken apart first: of a closure that captures `self` itself, which holds a reference, the proof learns nothing.
     fn lined<T>(self, answer: Result<T, RuleRefusal>) -> Result<T, Refusal>
         ensures { MatchResult answer (λ x. result ≡ Ok x) (λ e. result ≡ Err (at_line (Rule e) (rule_line (sheet_of self.entry.draft.now) self.entry.seats.line e))) }
     {
-        match answer {
-            Ok(value) => Ok(value),
-            Err(refusal) => Err(Refusal {
-                cause: Cause::Rule(refusal),
-                line: self.rule_line(refusal),
-            }),
-        }
+        let Seated { draft, seats } = self;
+        answer.map_err(|refusal| Refusal {
+            cause: Cause::Rule(refusal),
+            line: Seated { draft, seats }.rule_line(refusal),
+        })
     }
 
     // The listed pairs without their lines.
