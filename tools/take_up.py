@@ -1,11 +1,12 @@
 #!/usr/bin/env python3
 """Takes up the unfinished work that docs/PORT.md tells of.
 
-usage: python3 tools/take_up.py        at the top of the repository, with everything committed
+usage: python3 tools/take_up.py process    at the top of the repository, with everything committed
+       python3 tools/take_up.py PATH..     each file or folder below unfinished/, as crates/lines
 
-Each file of unfinished/ goes to its own path, sources and crates.txt without the `.txt` after their names; the paths
-in unfinished/REMOVED go, and then unfinished/ itself. Run it on a branch that begins at the commit in which
-unfinished/ last changed, and merge that branch: then git lays what the work changed upon what was changed since.
+`process` applies unfinished/process.patch, which is laid out for the tree in which it stands.
+A PATH goes to its own place, sources without the `.txt` after their names, and leaves unfinished/. These files are
+older than the tree: what they say of crates that have changed since has to be brought up to date by hand.
 """
 import os
 import shutil
@@ -13,38 +14,41 @@ import subprocess
 import sys
 
 ASIDE = "unfinished"
+PATCH = os.path.join(ASIDE, "process.patch")
 
 
 def own_path(path):
     below = os.path.relpath(path, ASIDE)
-    return below[: -len(".txt")] if below.endswith((".rt.txt", ".antt.txt", "crates.txt.txt")) else below
+    return below[: -len(".txt")] if below.endswith((".rt.txt", ".antt.txt")) else below
 
 
-def drop_empty(folder):
-    """Removes a folder in which nothing is left, and those above it."""
-    try:
-        os.removedirs(folder)
-    except OSError:
-        pass
+def files_below(path):
+    if os.path.isfile(path):
+        return [path]
+    return [os.path.join(folder, name) for folder, _, names in os.walk(path) for name in names]
+
+
+def take(path):
+    found = files_below(os.path.join(ASIDE, path))
+    if not found:
+        sys.exit(f"take_up.py: nothing at {ASIDE}/{path}")
+    for source in found:
+        to = own_path(source)
+        os.makedirs(os.path.dirname(to) or ".", exist_ok=True)
+        shutil.move(source, to)
 
 
 def main():
+    if len(sys.argv) < 2:
+        sys.exit(__doc__)
     if subprocess.run(["git", "status", "--porcelain"], capture_output=True, text=True, check=True).stdout:
         sys.exit("take_up.py: commit first")
-    removed = os.path.join(ASIDE, "REMOVED")
-    with open(removed, encoding="utf-8") as listed:
-        for path in listed.read().split("\n"):
-            if path and os.path.exists(path):
-                os.remove(path)
-                drop_empty(os.path.dirname(path))
-    os.remove(removed)
-    for folder, _, files in os.walk(ASIDE):
-        for name in files:
-            path = os.path.join(folder, name)
-            to = own_path(path)
-            os.makedirs(os.path.dirname(to) or ".", exist_ok=True)
-            shutil.move(path, to)
-    shutil.rmtree(ASIDE)
+    for path in sys.argv[1:]:
+        if path == "process":
+            subprocess.run(["git", "apply", PATCH], check=True)
+            os.remove(PATCH)
+        else:
+            take(path)
 
 
 if __name__ == "__main__":
