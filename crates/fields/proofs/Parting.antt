@@ -1,8 +1,10 @@
 -- How a text is cut at a byte.
-use Rattle.std.proofs.Common.{◌≡◌, ℕ, suc, ◌+◌, ◌<◌, ◌≤◌, Bool, true, false, cond, not, eqb, ltb, List, [], ◌∷◌, length, take, drop, Some, None, Option, MatchOption, refl, ap, arith, length-drop}
+use Rattle.std.proofs.Common.{◌≡◌, ℕ, suc, ◌+◌, ◌<◌, ◌≤◌, Bool, true, false, cond, not, eqb, List, [], ◌∷◌, length, take, drop, Some, None, Option, MatchOption, refl, sym, ap, arith, length-drop}
 use Rattle.std.specs.List.{onto_first, position_or_len}
-use Rattle.std.proofs.lemmas.Bool.{ltb-true, ltb-false}
+use Rattle.std.proofs.lemmas.Bool.{false_from_ne_true}
+use Rattle.std.proofs.lemmas.List.Sums.{position_or_len_is}
 use Rattle.std.proofs.lemmas.List.Splits.{slice_split_first, length-slice_split}
+use Rattle.memchr.specs.Find.{IsFirstByte, is_byte}
 use Rattle.fields.specs.Fields.{split, Cut}
 
 -- where there is no stop, the text is the one piece
@@ -27,10 +29,11 @@ split_cut stop bs n e h =
       },
     )
 
--- what `position` tells of the first stop
-pub parted : (stop : ℕ) (bs : List ℕ) (r : Option ℕ) → r ≡ cond (ltb (position_or_len (λ b. eqb b stop) bs) (length bs)) (Some (position_or_len (λ b. eqb b stop) bs)) None → MatchOption r (split stop bs ≡ bs ∷ []) (λ n. (n < length bs) × Cut stop bs (take n bs) (drop (n + 1) bs))
-parted stop bs r e = by (position_or_len (λ b. eqb b stop) bs) refl (ltb (position_or_len (λ b. eqb b stop) bs) (length bs)) refl e
-  where
-    by : (n : ℕ) → n ≡ position_or_len (λ b. eqb b stop) bs → (t : Bool) → ltb n (length bs) ≡ t → r ≡ cond t (Some n) None → MatchOption r (split stop bs ≡ bs ∷ []) (λ k. (k < length bs) × Cut stop bs (take k bs) (drop (k + 1) bs))
-    by n at true h k = rw k (split_cut stop bs n at (ltb-true n (length bs) h))
-    by n at false h k = rw k (split_whole stop bs (omega (arith, ltb-false n (length bs) h)))
+-- where the first stop is found, and where none is
+pub parted : (stop : ℕ) (bs : List ℕ) (r : Option ℕ) → IsFirstByte (is_byte stop) bs r → MatchOption r (split stop bs ≡ bs ∷ []) (λ n. (n < length bs) × Cut stop bs (take n bs) (drop (n + 1) bs))
+parted stop bs None none =
+    let at = position_or_len_is (λ b. eqb b stop) bs (length bs) 0 (omega arith) (λ k l. false_from_ne_true _ (none k (omega arith) l)) (λ l. absurd (omega (arith, l))) in
+    split_whole stop bs (omega (arith, at))
+parted stop bs (Some n) found =
+    let at = position_or_len_is (λ b. eqb b stop) bs n 0 (omega (arith, found.0.high)) (λ k l. false_from_ne_true _ (found.0.before k (omega arith) l)) (λ _. found.1) in
+    split_cut stop bs n (sym at) found.0.high

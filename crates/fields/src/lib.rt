@@ -4,18 +4,16 @@
 ghost use Rattle.std.specs.Prelude.{◌≡◌, ℕ, suc, ◌+◌, ◌<◌, ◌≤◌, true, [], ◌∷◌, length, take, drop, IfSome, MatchOption};
 ghost use Rattle.std.specs.Str.{bytes_eq};
 ghost use Rattle.sets.specs.Sets.{set_of};
-ghost use Rattle.fields.specs.Fields.{split, Cut, comma, number_in, member_in, union_in, set_in};
+ghost use Rattle.fields.specs.Fields.{split, Cut, comma, digits_from, number_in, member_in, union_in, set_in};
 
+use memchr::memchr;
 use sets::ProcessSet;
-use std::str;
 
 pub const LINE_FEED: u8 = b'\n';
 
 pub const BLANK: u8 = b' ';
 
 const COMMA: u8 = b',';
-
-const MAX_DIGITS: usize = 3;
 
 // Whether a field is this text.
 // It stands beside `==` since it is public and promises that equal fields are equal lists of bytes.
@@ -30,8 +28,19 @@ pub fn is_text(field: &[u8], text: &str) -> bool
 pub fn split_once(text: &[u8], stop: u8) -> Option<(&[u8], &[u8])>
     ensures { MatchOption result (split stop text.now ≡ text.now ∷ []) (λ p. Cut stop text.now p.0.now p.1.now) }
 {
-    let n = text.iter().position(|b| *b == stop)?;
+    let n = memchr(stop, text)?;
     Some((&text[..n], &text[n + 1..]))
+}
+
+// The value of one digit.
+fn digit(byte: u8) -> Option<u16>
+    ensures { result ≡ digits_from 0 (byte ∷ []) }
+{
+    if byte.is_ascii_digit() {
+        Some(u16::from(byte - b'0'))
+    } else {
+        None
+    }
 }
 
 // A number of one to three digits.
@@ -39,10 +48,12 @@ pub fn number(field: &[u8]) -> Option<u16>
     ensures value { result ≡ number_in field.now }
     ensures small { IfSome result (λ n. n < 1000) }
 {
-    if field.len() > MAX_DIGITS || !field.iter().all(|b| b.is_ascii_digit()) {
-        return None;
+    match *field {
+        [units] => digit(units),
+        [tens, units] => Some(10 * digit(tens)? + digit(units)?),
+        [hundreds, tens, units] => Some(100 * digit(hundreds)? + 10 * digit(tens)? + digit(units)?),
+        _ => None,
     }
-    str::from_utf8(field).ok()?.parse().ok()
 }
 
 // The set of one process.
