@@ -18,7 +18,7 @@ pub fn judge(heap: Global, script: &[u8]) -> Result<Crew, Fault>
     ensures protected { IfOk result (λ c. Protected script.now c.processes) }
 {
     let draft = Draft::read(heap, script)?;
-    judge_draft(heap, &draft)
+    Ok(judge_draft(&draft)?)
 }
 
 // All that is printed for a script: its crew, or its refusal.

@@ -1,20 +1,22 @@
 // Whether the rule of a script is accepted.
-ghost use Rattle.std.specs.Prelude.{◌≡◌, IfOk, None, Ok, Err, MatchResult};
+ghost use Rattle.std.specs.Prelude.{◌≡◌, suc, take, None, Ok, Err, MatchResult};
 ghost use Rattle.adversary.specs.Counts.{Counts as Counted};
 ghost use Rattle.adversary.specs.Lists.{Has};
-ghost use Rattle.adversary.specs.Refusals.{list_refusal, threshold_refusal};
+ghost use Rattle.adversary.specs.Refusals.{most_pairs, list_refusal, threshold_refusal};
 ghost use Rattle.refusal.specs.declared.script.Cause.TheVariants.{Rule};
 ghost use Rattle.refusal.specs.Numbers.{at_line};
-ghost use Rattle.script.specs.Refusals.{Answers, Refuses};
 ghost use Rattle.script.specs.Sheets.{sheet_of, pairs_of};
 ghost use Rattle.report.specs.Verdicts.{rule_line, judged, settled};
 
 use crate::crew::Crew;
-use adversary::{Intersection, PairList, Threshold};
+use adversary::{Intersection, MAX_PAIRS, PairList, Threshold};
+use arrayvec::ArrayVec;
 use refusal::{Cause, Refusal, RuleRefusal};
-use script::{Counts, Draft, Fault, Located};
+use script::{Counts, Draft, Located};
 use sets::FaultPair;
-use std::alloc::{AllocError, Global};
+
+// The most pairs that the rule is asked about. One more than a list has is enough to see that there are too many.
+const ASKED_PAIRS: usize = MAX_PAIRS + 1;
 
 // A draft, and the number of processes that it gives. Nothing compares them: it is made for one call and holds a
 // reference.
@@ -54,18 +56,23 @@ impl<'a> Seated<'a> {
         })
     }
 
-    // The listed pairs without their lines.
-    fn pairs(self, heap: Global) -> Result<Vec<FaultPair>, AllocError>
-        ensures { IfOk result (λ v. v.items ≡ pairs_of (sheet_of self.entry.draft.now)) }
+    // The listed pairs without their lines, as many as the rule is asked about. They use no heap, so that no draft is too
+    // long to be judged. A loop, since `collect` and `extend` answer errors that cannot come here.
+    fn pairs(self) -> ArrayVec<FaultPair, ASKED_PAIRS>
+        ensures { result.items ≡ take (suc most_pairs) (pairs_of (sheet_of self.entry.draft.now)) }
     {
-        self.draft.pairs.iter().map(|pair| pair.value).collect(heap)
+        let mut pairs = ArrayVec::new();
+        for pair in self.draft.pairs.iter().take(ASKED_PAIRS) {
+            pairs.push(pair.value);
+        }
+        pairs
     }
 
     // The rule of the listed pairs.
-    fn list(self, heap: Global) -> Result<PairList, Fault>
-        ensures { let s = sheet_of self.entry.draft.now in let q = self.entry.seats in MatchResult result (λ l. (list_refusal q.value (pairs_of s) ≡ None) × Has l q.value (pairs_of s)) (λ f. Refuses f (λ e. settled s q (list_refusal q.value (pairs_of s)) ≡ Err e)) }
+    fn list(self) -> Result<PairList, Refusal>
+        ensures { let s = sheet_of self.entry.draft.now in let q = self.entry.seats in MatchResult result (λ l. (list_refusal q.value (pairs_of s) ≡ None) × Has l q.value (pairs_of s)) (λ e. settled s q (list_refusal q.value (pairs_of s)) ≡ Err e) }
     {
-        let pairs = self.pairs(heap)?;
+        let pairs = self.pairs();
         let mut list = PairList::new();
         self.lined(list.adopt(self.seats.value, pairs.as_slice()))?;
         Ok(list)
@@ -86,17 +93,17 @@ const MISSING: Refusal = Refusal {
 };
 
 // Whether the rule is accepted: what is missing first, then the list, then the counts.
-pub(crate) fn judge_draft(heap: Global, draft: &Draft) -> Result<Crew, Fault>
-    ensures { Answers result (λ c. c.processes) (judged (sheet_of draft.now)) }
+pub(crate) fn judge_draft(draft: &Draft) -> Result<Crew, Refusal>
+    ensures { MatchResult result (λ c. judged (sheet_of draft.now) ≡ Ok c.processes) (λ e. judged (sheet_of draft.now) ≡ Err e) }
 {
     let seats = draft.seats.ok_or(MISSING)?;
     let seated = Seated { draft, seats };
     match draft.count {
-        None if draft.pairs.is_empty() => Err(MISSING.into()),
-        None => Ok(Crew::of(&seated.list(heap)?)),
+        None if draft.pairs.is_empty() => Err(MISSING),
+        None => Ok(Crew::of(&seated.list()?)),
         Some(counts) if draft.pairs.is_empty() => Ok(Crew::of(&seated.threshold(counts.value)?)),
         Some(counts) => {
-            let list = seated.list(heap)?;
+            let list = seated.list()?;
             let threshold = seated.threshold(counts.value)?;
             Ok(Crew::of(&Intersection::new(list, threshold)))
         }
