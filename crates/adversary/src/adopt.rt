@@ -136,14 +136,13 @@ fn list_of(processes: u16, pairs: &[FaultPair]) -> Result<PairList, RuleRefusal>
     ensures value { IfOk result (λ l. Has l processes pairs.now) }
 {
     let processes = process_count(processes)?;
-    let mut listed = ArrayVec::new();
-    listed
-        .try_extend_from_slice(pairs)
-        .map_err(|_| RuleRefusal::PairCount)?;
-    if listed.is_empty() {
+    if pairs.is_empty() || pairs.len() > MAX_PAIRS {
         return Err(RuleRefusal::PairCount);
     }
     Candidates { processes, pairs }.check()?;
+    // Made last, since a new list fills its whole room. The pairs fit, as was tested.
+    let mut listed = ArrayVec::new();
+    listed.try_extend_from_slice(pairs).unwrap();
     Ok(PairList {
         processes,
         pairs: listed,

@@ -31,6 +31,10 @@ module _ (n most : ℕ) (row : ℕ → Option ℕ) (l : ℕ) where
   unfolding saying
   in_saying w r = has_mask n (λ r. says w (reading most (row r)) && not (has (caught n most row l) r)) r
 
+  -- who was detected stays so
+  pub caught_old : (r : ℕ) → has l r ≡ true → has (caught n most row l) r ≡ true
+  caught_old r e = grind (arith, nat_tests, in_caught r)
+
   -- who says nothing that counts is caught
   pub caught_silent : (r : ℕ) → r < n → reading most (row r) ≡ None → has (caught n most row l) r ≡ true
   caught_silent r known e = grind (arith, nat_tests, in_caught r)

@@ -20,6 +20,7 @@ module _ (n : ℕ) (held : ℕ → ℕ → Bool) (few : n ≤ limit) (p : ℕ) w
   pub record Facts (j : Journal) (D : ℕ → Deed → Type 0) : Type 0 where
     pub bit_small : j.bit ≤ 1
     pub begun : (m : ℕ) × D 0 (started m j.bit)
+    pub one_start : (k m b : ℕ) → D k (started m b) → b ≡ j.bit
     pub not_own : (k r w : ℕ) → D k (heard (suc r) w) → r ≡ p → ⊥
     pub in_row : (k r w : ℕ) → D k (heard (suc r) w) → j.row k r ≡ Some w
     pub from_row : (k r w : ℕ) → j.row k r ≡ Some w → (r ≡ p → ⊥) → D k (heard (suc r) w)
@@ -39,6 +40,7 @@ module _ (n : ℕ) (held : ℕ → ℕ → Bool) (few : n ≤ limit) (p : ℕ) w
   idle s j D (awake t f) = awake t record {
     bit_small = f.bit_small;
     begun = (f.begun.0, inr f.begun.1);
+    one_start = λ k m' b. ⊎_elim (λ x. let e = x.0 in cc) (f.one_start k m' b);
     not_own = λ k r w. ⊎_elim (λ x. let e = x.0 in cc) (f.not_own k r w);
     in_row = λ k r w. ⊎_elim (λ x. let e = x.0 in cc) (f.in_row k r w);
     from_row = λ k r w e ne. inr (f.from_row k r w e ne);
@@ -55,6 +57,7 @@ module _ (n : ℕ) (held : ℕ → ℕ → Bool) (few : n ≤ limit) (p : ℕ) w
       record {
         bit_small = ltb-false 1 b (when_none (ltb 1 b) _ c.1);
         begun = (m, inl (refl, zero_rounds));
+        one_start = λ k m' b'. ⊎_elim (λ x. let e = x.0 in cc) (λ d. absurd (none _ _ d));
         not_own = λ k r w. ⊎_elim (λ x. let e = x.0 in cc) (λ d. absurd (none _ _ d));
         in_row = λ k r w. ⊎_elim (λ x. let e = x.0 in cc) (λ d. absurd (none _ _ d));
         from_row = λ k r w e ne. let f = empty k r in cc;
@@ -70,6 +73,7 @@ module _ (n : ℕ) (held : ℕ → ℕ → Bool) (few : n ≤ limit) (p : ℕ) w
   speak_facts s j D t f = record {
     bit_small = f.bit_small;
     begun = (f.begun.0, inr f.begun.1);
+    one_start = λ k m' b. ⊎_elim (λ x. let e = x.0 in cc) (f.one_start k m' b);
     not_own = λ k r w. ⊎_elim (λ x. let e = x.0 in cc) (f.not_own k r w);
     in_row = λ k r w. ⊎_elim (λ x. let e = x.0 in cc) (λ d. kept k r (f.not_own k r w d) ∙ f.in_row k r w d);
     from_row = λ k r w e ne. inr (f.from_row k r w (sym (kept k r ne) ∙ e) ne);
@@ -94,6 +98,7 @@ module _ (n : ℕ) (held : ℕ → ℕ → Bool) (few : n ≤ limit) (p : ℕ) w
   hear_facts s j D m w t h f = record {
     bit_small = f.bit_small;
     begun = (f.begun.0, inr f.begun.1);
+    one_start = λ k m' b. ⊎_elim (λ x. let e = x.0 in cc) (f.one_start k m' b);
     not_own = λ k r x. ⊎_elim (λ y e. h.other (let q : m ≡ suc r = (let u = y.0 in cc) in omega (arith, t.number))) (f.not_own k r x);
     in_row = λ k r x. ⊎_elim
         (λ y.
@@ -139,6 +144,7 @@ module _ (n : ℕ) (held : ℕ → ℕ → Bool) (few : n ≤ limit) (p : ℕ) w
   shut_facts j D f = record {
     bit_small = f.bit_small;
     begun = (f.begun.0, inr f.begun.1);
+    one_start = λ k m' b. ⊎_elim (λ x. let e = x.0 in cc) (f.one_start k m' b);
     not_own = λ k r w. ⊎_elim (λ x. let e = x.0 in cc) (f.not_own k r w);
     in_row = λ k r w. ⊎_elim (λ x. let e = x.0 in cc) (f.in_row k r w);
     from_row = λ k r w e ne. inr (f.from_row k r w e ne);
