@@ -18,8 +18,8 @@ fn read_slot(slots: &[Option<u8>], kind: Kind, position: u8) -> Option<u8>
     word.filter(|word| *word <= kind.most_word())
 }
 
-// One round of one process: its rule, the words in its slots, how many rounds were shut before, what it knew then,
-// and the processes that said nothing that counts. Nothing compares it: it is made for one call and holds references.
+// One round of one process: its rule, the words in its slots, how many rounds were shut before, and what it knew then.
+// Nothing compares it: it is made for one call and holds references.
 #[derive(Drop)]
 struct Round<'a, S: AdversaryStructure> {
     rule: &'a S,
@@ -27,59 +27,54 @@ struct Round<'a, S: AdversaryStructure> {
     shut: u16,
     kind: Kind,
     before: Core,
-    silent: ProcessSet,
     ghost of_kind: { round_kind kind ≡ kind_of shut },
-    ghost known: { bit_or before.detected.bits silent.bits ≡ caught_in (S.AdversaryStructure.size rule.now) kind slots.now before },
 }
 
-impl<'a, S: AdversaryStructure> Round<'a, S> {
-    // The round after `shut` rounds.
+// A round in which everyone is heard, with the processes that said nothing that counts. Nothing compares it either.
+// It costs a look at the slot of each process, so a third round, which takes the word of the king alone, has none.
+#[derive(Drop)]
+struct Hearing<'a, S: AdversaryStructure> {
+    round: &'a Round<'a, S>,
+    silent: ProcessSet,
+    ghost known: { bit_or round.now.before.detected.bits silent.bits ≡ caught_in (S.AdversaryStructure.size round.now.rule.now) round.now.kind round.now.slots.now round.now.before },
+}
+
+impl<'a, S: AdversaryStructure> Hearing<'a, S> {
+    // The hearing of a round.
     #[tactic(auto, unfolding(agreement::specs::Step::caught))]
-    fn new(rule: &'a S, shut: u16, slots: &'a [Option<u8>], before: Core) -> Self
-        ensures of_rule { result.rule.now ≡ rule.now }
-        ensures of_shut { result.shut ≡ shut }
-        ensures of_slots { result.slots.now ≡ slots.now }
-        ensures of_before { result.before ≡ before }
+    fn new(round: &'a Round<'a, S>) -> Self
+        ensures { result.round.now ≡ round.now }
     {
-        let kind = Kind::of(shut);
-        let silent = passing(
-            rule.processes(),
-            |position| read_slot(slots, kind, position).is_none(),
-        );
-        Round {
-            rule,
-            slots,
-            shut,
-            kind,
-            before,
-            silent,
-        }
+        let silent = passing(round.rule.processes(), |position| {
+            read_slot(round.slots, round.kind, position).is_none()
+        });
+        Hearing { round, silent }
     }
 
     // Those that are detected after it: those that were before, and the silent ones.
     fn caught(&self) -> ProcessSet
-        ensures { result.bits ≡ caught_in (S.AdversaryStructure.size self.now.rule.now) self.now.kind self.now.slots.now self.now.before }
+        ensures { result.bits ≡ caught_in (S.AdversaryStructure.size self.now.round.now.rule.now) self.now.round.now.kind self.now.round.now.slots.now self.now.round.now.before }
     {
-        self.before.detected.union(self.silent)
+        self.round.before.detected.union(self.silent)
     }
 
     // Those that said `word` and are not caught.
     #[tactic(auto, unfolding(agreement::specs::Step::saying))]
     fn saying(&self, word: u8) -> ProcessSet
-        ensures { result.bits ≡ saying_in (S.AdversaryStructure.size self.now.rule.now) self.now.kind self.now.slots.now self.now.before word }
+        ensures { result.bits ≡ saying_in (S.AdversaryStructure.size self.now.round.now.rule.now) self.now.round.now.kind self.now.round.now.slots.now self.now.round.now.before word }
     {
         let caught = self.caught();
-        passing(self.rule.processes(), |position| {
-            read_slot(self.slots, self.kind, position) == Some(word)
+        passing(self.round.rule.processes(), |position| {
+            read_slot(self.round.slots, self.round.kind, position) == Some(word)
                 && !caught.contains(position + 1)
         })
     }
 
     // Whether those that said `word` may all lie.
     fn may_lie(&self, word: u8) -> bool
-        ensures { result ≡ S.AdversaryStructure.holding self.now.rule.now (saying_in (S.AdversaryStructure.size self.now.rule.now) self.now.kind self.now.slots.now self.now.before word) (caught_in (S.AdversaryStructure.size self.now.rule.now) self.now.kind self.now.slots.now self.now.before) }
+        ensures { result ≡ S.AdversaryStructure.holding self.now.round.now.rule.now (saying_in (S.AdversaryStructure.size self.now.round.now.rule.now) self.now.round.now.kind self.now.round.now.slots.now self.now.round.now.before word) (caught_in (S.AdversaryStructure.size self.now.round.now.rule.now) self.now.round.now.kind self.now.round.now.slots.now self.now.round.now.before) }
     {
-        self.rule.holds(FaultPair {
+        self.round.rule.holds(FaultPair {
             byzantine: self.saying(word),
             failing: self.caught(),
         })
@@ -87,8 +82,8 @@ impl<'a, S: AdversaryStructure> Round<'a, S> {
 
     // First round: 0 if those that said 1 may all be faulty, else 1 if those that said 0 may, else no value.
     fn unified(&self) -> Core
-        requires { self.now.kind ≡ Unify }
-        ensures { state_of result ≡ unifies (S.AdversaryStructure.size self.now.rule.now) (S.AdversaryStructure.holding self.now.rule.now) (row_of self.now.slots.now) (state_of self.now.before) }
+        requires { self.now.round.now.kind ≡ Unify }
+        ensures { state_of result ≡ unifies (S.AdversaryStructure.size self.now.round.now.rule.now) (S.AdversaryStructure.holding self.now.round.now.rule.now) (row_of self.now.round.now.slots.now) (state_of self.now.round.now.before) }
     {
         let preferred = if self.may_lie(1) {
             0
@@ -101,14 +96,14 @@ impl<'a, S: AdversaryStructure> Round<'a, S> {
         Core {
             preferred,
             detected,
-            ..self.before
+            ..self.round.before
         }
     }
 
     // Second round: 0 if those that said 0 cannot all be faulty, else 1 likewise, else no value.
     fn exchanged(&self) -> Core
-        requires { self.now.kind ≡ Exchange }
-        ensures { state_of result ≡ exchanges (S.AdversaryStructure.size self.now.rule.now) (S.AdversaryStructure.holding self.now.rule.now) (row_of self.now.slots.now) (state_of self.now.before) }
+        requires { self.now.round.now.kind ≡ Exchange }
+        ensures { state_of result ≡ exchanges (S.AdversaryStructure.size self.now.round.now.rule.now) (S.AdversaryStructure.holding self.now.round.now.rule.now) (row_of self.now.round.now.slots.now) (state_of self.now.round.now.before) }
     {
         let preferred = if !self.may_lie(0) {
             0
@@ -121,6 +116,24 @@ impl<'a, S: AdversaryStructure> Round<'a, S> {
             preferred,
             detected: self.caught(),
             follows: !self.may_lie(NO_VALUE),
+        }
+    }
+}
+
+impl<'a, S: AdversaryStructure> Round<'a, S> {
+    // The round after `shut` rounds.
+    fn new(rule: &'a S, shut: u16, slots: &'a [Option<u8>], before: Core) -> Self
+        ensures of_rule { result.rule.now ≡ rule.now }
+        ensures of_shut { result.shut ≡ shut }
+        ensures of_slots { result.slots.now ≡ slots.now }
+        ensures of_before { result.before ≡ before }
+    {
+        Round {
+            rule,
+            slots,
+            shut,
+            kind: Kind::of(shut),
+            before,
         }
     }
 
@@ -153,8 +166,14 @@ impl<'a, S: AdversaryStructure> Round<'a, S> {
         ensures { state_of result ≡ steps (S.AdversaryStructure.size self.now.rule.now) (S.AdversaryStructure.holding self.now.rule.now) self.now.shut (row_of self.now.slots.now) (state_of self.now.before) }
     {
         match self.kind {
-            Kind::Unify => self.unified(),
-            Kind::Exchange => self.exchanged(),
+            Kind::Unify | Kind::Exchange => {
+                let heard = Hearing::new(self);
+                if self.kind == Kind::Exchange {
+                    heard.exchanged()
+                } else {
+                    heard.unified()
+                }
+            }
             Kind::King => self.told(),
         }
     }
