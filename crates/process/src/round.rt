@@ -166,6 +166,7 @@ impl<'a, S: AdversaryStructure> Round<'a, S> {
         ensures { state_of result ≡ steps (S.AdversaryStructure.size self.now.rule.now) (S.AdversaryStructure.holding self.now.rule.now) self.now.shut (row_of self.now.slots.now) (state_of self.now.before) }
     {
         match self.kind {
+            // One place makes the hearing of either kind: in an arm of its own for each, the king's round got dearer.
             Kind::Unify | Kind::Exchange => {
                 let heard = Hearing::new(self);
                 if self.kind == Kind::Exchange {
